@@ -1,0 +1,78 @@
+//! Lists of lists of numbers: their entries, and lists put in order.
+
+ghost use Rattle.std.specs.Prelude.{◌≡◌, ◌<◌, ◌≤◌, ◌^◌, ◌↔◌, All, take, slice_index, ℕ, OnOk, IfOk, IfSome, IfNone, IsTrue, Contains, length};
+ghost use Rattle.std.specs.List.Sorted.{IsStrictlyIncreasing};
+ghost use Rattle.conley_walk.specs.Lists.{items_of, IsDigraph, entries_of, IsFirstOutOfRange, IsOrderedCopy, PutsUnder};
+
+use std::alloc::{AllocError, Global};
+
+/// The first place in the list with a number that isn't below n.
+fn place_out_of_range(list: &[u32], n: usize) -> Option<usize>
+    ensures found { IfSome result (λ k. (k < length list.now) × (n ≤ slice_index list.now k) × All (λ y. y < n) (take k list.now)) }
+    ensures none { IfNone result (All (λ y. y < n) list.now) }
+{
+    for (k, entry) in list.iter().enumerate() {
+        if *entry as usize >= n {
+            return Some(k);
+        }
+    }
+    None
+}
+
+/// The first entry, counted over all lists, that isn't below the number of lists. No memory.
+pub fn first_out_of_range(lists: &[Vec<u32>]) -> Option<u32>
+    requires { length (entries_of (items_of lists.now)) < 2 ^ 32 }
+    ensures found { IfSome result (IsFirstOutOfRange (items_of lists.now)) }
+    ensures none { IfNone result (IsDigraph (items_of lists.now)) }
+{
+    let mut before = 0;
+    for list in lists {
+        if let Some(place) = place_out_of_range(list, lists.len()) {
+            return Some((before + place) as u32);
+        }
+        before += list.len();
+    }
+    None
+}
+
+/// The same numbers in ascending order, each once.
+pub fn ordered(alloc: Global, list: &[u32]) -> Result<Vec<u32>, AllocError>
+    ensures ascending { IfOk result (λ copy. IsStrictlyIncreasing copy.items) }
+    ensures same { IfOk result (λ copy. (y : ℕ) → Contains copy.items y ↔ Contains list.now y) }
+{
+    let mut copy = Vec::from_slice(alloc, list)?;
+    copy.sort_unstable();
+    copy.dedup();
+    Ok(copy)
+}
+
+/// Each list in ascending order, each number once.
+pub fn all_ordered(alloc: Global, lists: &[Vec<u32>]) -> Result<Vec<Vec<u32>>, AllocError>
+    ensures { IfOk result (λ copy. IsOrderedCopy (items_of copy.items) (items_of lists.now)) }
+{
+    let mut copies = Vec::new(alloc);
+    for list in lists {
+        copies.push(ordered(alloc, list)?)?;
+    }
+    Ok(copies)
+}
+
+/// Whether the ascending list contains the number, by binary search. No memory.
+pub fn stands_in(list: &[u32], x: u32) -> bool
+    requires { IsStrictlyIncreasing list.now }
+    ensures { IsTrue result ↔ Contains list.now x }
+{
+    match list.binary_search(&x) {
+        Ok(_) => true,
+        Err(_) => false,
+    }
+}
+
+/// Puts y at the end of list x.
+pub fn put_under(lists: &mut Vec<Vec<u32>>, x: u32, y: u32) -> Result<(), AllocError>
+    requires { x < length lists.old.items }
+    ensures { OnOk result (PutsUnder (items_of lists.old.items) (items_of lists.new.items) x y) }
+{
+    lists[x as usize].push(y)?;
+    Ok(())
+}
