@@ -1,0 +1,4 @@
+pub mod FaceLemmas
+pub mod PartLemmas
+pub mod MarkLemmas
+pub mod ClosureLemmas
