@@ -1,0 +1,15 @@
+use Rattle.std.proofs.Common.{arith, ◌<◌, length, sym, ◌∙◌}
+use Rattle.conley_walk.proofs.ListLemmas.{row_of, row_in_range, read_mark}
+use Rattle.conley_faces.proofs.closures.is_below_itself.Goals as goal
+
+pub reached_from-requires-clause-nodes : goal.reached_from-requires-clause-nodes
+reached_from-requires-clause-nodes c =
+    rw c.deref.ensures.value (row_in_range c.args.direct.now c.args.x c.index-direct-x.result c.requires.digraph c.requires.cell c.index-direct-x.is)
+
+pub returns : goal.returns
+returns c =
+    let row = row_of c.args.direct.now c.args.x c.index-direct-x.result c.requires.cell c.index-direct-x.is in
+    let lt : c.args.x < length c.in_ok-marks.marks.items = omega (arith, c.requires.cell, c.in_ok-marks.ensures.width, c.in_ok-marks.marks.ok.0) in
+    let mark = read_mark c.in_ok-marks.marks.items c.args.x c.index.result.now lt c.index.ensures in
+    let reach = rw (c.deref.ensures.value, ← row) at (c.in_ok-marks.ensures.reach c.args.x) in
+    ((λ t. let g = reach.0 (mark ∙ t) in (g.0, g.1.0, g.1.1)), (λ b. sym mark ∙ reach.1 (b.0, (b.1, b.2))))
