@@ -7,7 +7,7 @@ use Rattle.std.proofs.lemmas.Bool.{cases_eq, cases_lt}
 use Rattle.std.proofs.lemmas.List.{take_more, take-append-drop}
 use Rattle.std.proofs.lemmas.List.Sums.{sum_by-set}
 use Rattle.std.proofs.lemmas.List.Elements.{Contains-append_left, Contains-append_right, Contains-append_cases, Contains-push, Contains-push_cases}
-use Rattle.conley_walk.specs.Walk.{Walk, Reaches}
+use Rattle.conley_walk.specs.Walk.{Reaches}
 use Rattle.conley_walk.specs.Lists.{ListedStep, IsDigraph}
 use Rattle.conley_walk.proofs.WalkLemmas.{reaches_itself, reaches_on, reaches_by_step, reaches_least}
 use Rattle.conley_walk.proofs.ListLemmas.{step_begins}
@@ -162,11 +162,11 @@ module _ (lists closures : List (List ℕ)) (digraph : IsDigraph lists) (so_far 
   all_made x lt = elim (cases_lt 0 (length (get_or closures x []))) [
     | inl made ↦ made
     | inr none ↦ absurd (never_handed_on lists no_cycle (λ q. (q < length lists) × (IsMade closures q → ⊥))
-      (λ q h. elim (stuck q h.0) [
-        | inl m ↦ absurd (h.1 m)
-        | inr g ↦ (g.0, (g.1.0, (digraph q g.0 g.1.0, g.1.1)))
-      ])
-      digraph x (lt, λ m. omega (arith, m, none)))
+        (λ q h. elim (stuck q h.0) [
+          | inl m ↦ absurd (h.1 m)
+          | inr g ↦ (g.0, (g.1.0, (digraph q g.0 g.1.0, g.1.1)))
+        ])
+        digraph x (lt, λ m. omega (arith, m, none)))
   ]
 
   pub closures_whole : AreClosures lists closures

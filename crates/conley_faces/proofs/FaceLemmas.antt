@@ -1,8 +1,7 @@
 -- Faces, closed sets and cells below themselves
-use Rattle.std.proofs.Common.{◌≡◌, ◌⊎◌, inl, inr, ◌<◌, ℕ, List, length, refl, subst}
-use Rattle.std.specs.Prelude.{Contains, All}
+use Rattle.std.proofs.Common.{◌≡◌, ◌⊎◌, inl, inr, ◌<◌, ℕ, List, length}
+use Rattle.std.specs.Prelude.{Contains}
 use Rattle.std.proofs.lemmas.List.Elements.{All-contains}
-use Rattle.conley_walk.specs.Walk.{Reaches}
 use Rattle.conley_walk.specs.Lists.{ListedStep, IsDigraph, IsOrderedCopy}
 use Rattle.conley_walk.proofs.WalkLemmas.{reaches_itself, reaches_on, reaches_by_step, reaches_least, reaches_cases, reaches_more}
 use Rattle.conley_walk.proofs.ListLemmas.{step_begins}

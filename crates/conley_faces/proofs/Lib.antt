@@ -2,3 +2,4 @@ pub mod FaceLemmas
 pub mod PartLemmas
 pub mod MarkLemmas
 pub mod ClosureLemmas
+pub mod GapLemmas

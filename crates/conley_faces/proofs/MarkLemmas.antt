@@ -2,12 +2,12 @@
 use Rattle.std.proofs.Common.{◌≡◌, ◌⊎◌, inl, inr, ℕ, ◌+◌, ◌<◌, ◌≤◌, Bool, true, false, List, [], ◌∷◌, ◌++◌, length, get_or, take, sym, ◌∙◌, subst, arith, get_or-set_other, get_or-set_same}
 use Rattle.std.specs.Prelude.{Contains, ◌↔◌}
 use Rattle.std.proofs.Math.ListN.{set, replicate}
-use Rattle.std.proofs.lemmas.Bool.{cases_eq, cases_lt, false≢true}
+use Rattle.std.proofs.lemmas.Bool.{cases_eq, false≢true}
 use Rattle.std.proofs.lemmas.List.{take_more}
 use Rattle.std.proofs.lemmas.List.Elements.{Contains-append_left, Contains-append_right, Contains-append_cases, Contains-push, Contains-push_cases}
 use Rattle.conley_walk.specs.Lists.{IsMarked, ListedStep}
 use Rattle.conley_walk.proofs.ListLemmas.{place_of, Contains-none}
-use Rattle.conley_walk.proofs.SearchLemmas.{IsMarked-set, IsMarked-set_cases, IsMarked-in_row, unmarked_row}
+use Rattle.conley_walk.proofs.SearchLemmas.{IsMarked-set, IsMarked-set_cases, unmarked_row}
 use Rattle.conley_faces.specs.Closures.{IsInListOf, AreMarked, IsUnmarked}
 
 -- a new row has no mark

@@ -1,14 +1,11 @@
 -- The numbers of an ascending list that meet a predicate
-use Rattle.std.proofs.Common.{◌≡◌, inl, inr, ℕ, ◌+◌, ◌<◌, ◌++◌, ◌∷◌, [], List, length, length-append, get_or, take, ap, sym, ◌∙◌, arith, subst, All}
-use Rattle.std.specs.Prelude.{Contains, ◌↔◌}
+use Rattle.std.proofs.Common.{inl, inr, ℕ, ◌+◌, ◌<◌, ◌++◌, ◌∷◌, [], List, length, get_or, take, sym, arith, subst}
+use Rattle.std.specs.Prelude.{Contains}
 use Rattle.std.specs.List.Sorted.{IsStrictlyIncreasing}
-use Rattle.std.proofs.Math.Seq.{get_or-append_seam}
-use Rattle.std.proofs.lemmas.Bool.{cases_eq}
-use Rattle.std.proofs.lemmas.List.{get_or_append_left, take_more, get_or-take, length-take}
-use Rattle.std.proofs.lemmas.List.Elements.{Contains-push, Contains-push_cases, Contains-append_left, Contains-append_right, Contains-append_cases, Contains-get_or}
-use Rattle.conley_walk.specs.Lists.{ListedStep}
+use Rattle.std.proofs.lemmas.List.{take_more, get_or-take, length-take}
+use Rattle.std.proofs.lemmas.List.Elements.{Contains-push, Contains-push_cases, Contains-append_left, Contains-get_or}
 use Rattle.conley_walk.proofs.ListLemmas.{Contains-none, place_of, rises, increasing-push}
-use Rattle.conley_faces.specs.Closures.{IsPart, IsInListOf}
+use Rattle.conley_faces.specs.Closures.{IsPart}
 
 -- a number of the first k is less than number k of an ascending list
 before_less : (list : List ℕ) (k y : ℕ) → IsStrictlyIncreasing list → k < length list → Contains (take k list) y → y < get_or list k 0

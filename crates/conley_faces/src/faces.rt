@@ -1,13 +1,14 @@
 //! The faces of cells.
 
-ghost use Rattle.std.specs.Prelude.{◌≡◌, ◌<◌, ◌≤◌, ◌^◌, ◌↔◌, ℕ, [], OnOk, IfOk, IfSome, IfNone, IsNone, IsTrue, Contains, length, slice_index_or};
+ghost use Rattle.std.specs.Prelude.{◌≡◌, ◌<◌, ◌≤◌, ◌^◌, ◌↔◌, ℕ, [], OnOk, IfOk, IfSome, IfNone, IsNone, IsTrue, true, false, Contains, length, slice_index_or};
 ghost use Rattle.std.specs.List.Sorted.{IsStrictlyIncreasing};
-ghost use Rattle.conley_walk.specs.Lists.{items_of, IsDigraph, entries_of, IsFirstOutOfRange, IsOrderedCopy};
+ghost use Rattle.conley_walk.specs.Walk.{Reaches};
+ghost use Rattle.conley_walk.specs.Lists.{items_of, ListedStep, IsDigraph, entries_of, IsFirstOutOfRange, IsOrderedCopy};
 ghost use Rattle.conley_faces.specs.Face.{IsFace, IsCellList, IsGap, IsFirstGap, IsLocallyClosed, IsInClosure, IsInMouth, IsBelowItself, IsLeastBelowItself};
 ghost use Rattle.conley_faces.specs.FaceOrder.{IsFaceOrder};
 
 use crate::closures::{least_below_itself, made_closures};
-use crate::lists::{gathered, left_out};
+use crate::lists::{first_common, gathered, left_out};
 use crate::{FacesError, NoMemory};
 use conley_walk::{all_ordered, first_out_of_range, ordered, stands_in};
 use std::alloc::Global;
@@ -67,6 +68,7 @@ impl Faces {
         requires { x < length self.now }
         ensures cells { result.now ≡ slice_index_or self.now x [] }
         ensures ascending { IsStrictlyIncreasing result.now }
+        ensures order { IsFaceOrder self.now }
     {
         &self.direct[x as usize]
     }
@@ -90,19 +92,49 @@ impl Faces {
         stands_in(self.faces_of(x), y)
     }
 
-    /// The first cell of the set that is a face of y.
+    /// The first cell of the set that is a face of y. The longer of the two lists is searched.
     fn first_face_in(&self, y: u32, set: &[u32]) -> Option<u32>
         requires cell { y < length self.now }
         requires set { IsCellList self.now set.now }
         ensures found { IfSome result (λ z. Contains set.now z × IsFace self.now y z × ((w : ℕ) → Contains set.now w → IsFace self.now y w → z ≤ w)) }
         ensures none { IfNone result ((z : ℕ) → Contains set.now z → ¬ IsFace self.now y z) }
     {
-        for z in self.faces_of(y) {
-            if stands_in(set, *z) {
-                return Some(*z);
+        let faces = self.faces_of(y);
+        if set.len() < faces.len() {
+            return first_common(set, faces);
+        }
+        first_common(faces, set)
+    }
+
+    /// Whether a step from x leads out of the set, to a cell that has a face in it.
+    fn leaves_and_returns(&self, x: u32, set: &[u32]) -> bool
+        requires cell { Contains set.now x }
+        requires set { IsCellList self.now set.now }
+        ensures yes { result ≡ true → ¬ IsLocallyClosed self.now set.now }
+        ensures no { result ≡ false → (y z : ℕ) → ListedStep self.now x y → ¬ Contains set.now y → Contains set.now z → ¬ Reaches (ListedStep self.now) y z }
+    {
+        for y in self.direct(x) {
+            if !stands_in(set, *y) {
+                if let Some(_) = self.first_face_in(*y, set) {
+                    return true;
+                }
             }
         }
-        None
+        false
+    }
+
+    /// Whether the set has a gap. Only the cells directly under those of the set are looked at.
+    fn has_gap(&self, set: &[u32]) -> bool
+        requires { IsCellList self.now set.now }
+        ensures yes { result ≡ true → ¬ IsLocallyClosed self.now set.now }
+        ensures no { result ≡ false → IsLocallyClosed self.now set.now }
+    {
+        for x in set {
+            if self.leaves_and_returns(*x, set) {
+                return true;
+            }
+        }
+        false
     }
 
     /// The first gap below the cell x.
@@ -129,7 +161,6 @@ impl Faces {
         ensures cells { IfOk result (λ list. IsCellList self.now list.items) }
         ensures closure { IfOk result (λ list. (y : ℕ) → Contains list.items y ↔ IsInClosure self.now set.now y) }
     {
-        let _count = self.count();
         let all = gathered(alloc, &self.closures, set)?;
         let list = ordered(alloc, &all)?;
         Ok(list)
@@ -168,6 +199,9 @@ impl Faces {
         ensures none { IsNone result ↔ IsLocallyClosed self.now set.now }
         ensures gap { IfSome result (IsFirstGap self.now set.now) }
     {
+        if !self.has_gap(set) {
+            return None;
+        }
         for x in set {
             if let Some((y, z)) = self.first_gap_below(*x, set) {
                 return Some((*x, y, z));

@@ -1,6 +1,6 @@
-//! Numbers gathered from several lists, and a list without the numbers of another.
+//! Numbers gathered from several lists, and what two ascending lists have in common or not.
 
-ghost use Rattle.std.specs.Prelude.{◌≡◌, ◌<◌, ◌↔◌, ◌⊎◌, All, ℕ, OnOk, IfOk, Contains, length};
+ghost use Rattle.std.specs.Prelude.{◌≡◌, ◌<◌, ◌≤◌, ◌↔◌, ◌⊎◌, All, ℕ, OnOk, IfOk, IfSome, IfNone, Contains, length};
 ghost use Rattle.std.specs.List.Sorted.{IsStrictlyIncreasing};
 ghost use Rattle.conley_walk.specs.Lists.{items_of, ListedStep};
 ghost use Rattle.conley_faces.specs.Closures.{IsInListOf, IsPart, AreMarked, IsUnmarked};
@@ -107,4 +107,19 @@ pub fn left_out(alloc: Global, list: &[u32], without: &[u32]) -> Result<Vec<u32>
         }
     }
     Ok(part)
+}
+
+/// The first number of the one ascending list that the other one has, by a binary search for each number of the first.
+pub fn first_common(list: &[u32], other: &[u32]) -> Option<u32>
+    requires list { IsStrictlyIncreasing list.now }
+    requires other { IsStrictlyIncreasing other.now }
+    ensures found { IfSome result (λ z. Contains list.now z × Contains other.now z × ((w : ℕ) → Contains list.now w → Contains other.now w → z ≤ w)) }
+    ensures none { IfNone result ((z : ℕ) → Contains list.now z → ¬ Contains other.now z) }
+{
+    for z in list {
+        if stands_in(other, *z) {
+            return Some(*z);
+        }
+    }
+    None
 }

@@ -1,5 +1,4 @@
 use Rattle.std.proofs.Common.{arith, ◌<◌, length, get_or}
-use Rattle.std.proofs.lemmas.List.Elements.{Contains-get_or}
 use Rattle.conley_walk.specs.Lists.{items_of}
 use Rattle.conley_walk.proofs.ListLemmas.{row_of, take_whole, All-from_contained}
 use Rattle.conley_faces.proofs.MarkLemmas.{listed-more}

@@ -1,5 +1,4 @@
 use Rattle.std.proofs.Common.{arith, get_or, take, length, ◌<◌}
-use Rattle.std.specs.Prelude.{Contains}
 use Rattle.std.proofs.lemmas.List.{take_more}
 use Rattle.conley_walk.proofs.ListLemmas.{take_whole}
 use Rattle.conley_faces.proofs.MarkLemmas.{marked-more, taken-new, taken-old}

@@ -19,7 +19,7 @@ pub returns-clause-cells : goal.returns-clause-cells
 returns-clause-cells c = record {
   ascending = c.in_ok-list.ensures.ascending;
   cells = All-from_contained (λ y. y < length c.args.self.now) c.in_ok-list.list.items (λ y d.
-      face_ends c.args.self.now c.count-count.ensures.order.digraph ((closure c y).0 d).0 y ((closure c y).0 d).2);
+      face_ends c.args.self.now (rw c.self.view_is at c.self.invariant.order.digraph) ((closure c y).0 d).0 y ((closure c y).0 d).2);
 }
 
 pub returns-clause-closure : goal.returns-clause-closure
