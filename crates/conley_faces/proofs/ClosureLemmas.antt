@@ -1,33 +1,19 @@
--- Closures are made one by one, and where none can be made a cell is below itself
+-- Closures are made one by one, and where none can be made all are or a cell is below itself
 use Rattle.std.proofs.Common.{◌≡◌, ◌⊎◌, inl, inr, ℕ, zero, suc, ◌+◌, ◌<◌, ◌≤◌, List, [], ◌∷◌, ◌++◌, length, get_or, take, drop, refl, sym, ap, ◌∙◌, subst, arith, length-append, get_or-set_other, get_or-set_same}
 use Rattle.std.specs.Prelude.{Contains, ◌↔◌}
 use Rattle.std.specs.List.Sorted.{IsStrictlyIncreasing}
 use Rattle.std.proofs.Math.ListN.{set, length-set}
-use Rattle.std.proofs.lemmas.Bool.{cases_eq}
+use Rattle.std.proofs.lemmas.Bool.{cases_eq, cases_lt}
 use Rattle.std.proofs.lemmas.List.{take_more, take-append-drop}
 use Rattle.std.proofs.lemmas.List.Sums.{sum_by-set}
 use Rattle.std.proofs.lemmas.List.Elements.{Contains-append_left, Contains-append_right, Contains-append_cases, Contains-push, Contains-push_cases}
 use Rattle.conley_walk.specs.Walk.{Reaches}
 use Rattle.conley_walk.specs.Lists.{ListedStep, IsDigraph}
-use Rattle.conley_walk.proofs.WalkLemmas.{reaches_itself, reaches_on, reaches_by_step, reaches_least, reaches_cases}
+use Rattle.conley_walk.proofs.WalkLemmas.{reaches_itself, reaches_on, reaches_by_step, reaches_least}
+use Rattle.conley_walk.proofs.ListLemmas.{step_begins}
 use Rattle.conley_faces.specs.Face.{IsFace, IsBelowItself, IsInClosure}
 use Rattle.conley_faces.specs.Closures.{IsMade, IsInListOf, AreClosures, AreClosuresSoFar, IsStuck, unmade_one, unmade}
-use Rattle.conley_walk.proofs.ListLemmas.{step_begins}
-use Rattle.conley_faces.proofs.Tables.{face_ends}
-
--- a cell is a face of itself
-pub face_itself : (lists : List (List ℕ)) (x : ℕ) → x < length lists → IsFace lists x x
-face_itself lists x lt = record { cell = lt; walk = reaches_itself x }
-
--- the faces of a cell directly under x are faces of x
-pub face_under : (lists : List (List ℕ)) (x z y : ℕ) → ListedStep lists x z → IsFace lists z y → IsFace lists x y
-face_under lists x z y s f = record { cell = step_begins lists x z s; walk = reaches_on (reaches_by_step {Step = ListedStep lists} {x = x} {y = z} s) f.walk }
-
-pub face_cases : (lists : List (List ℕ)) → IsDigraph lists → (x y : ℕ) → IsFace lists x y → (x ≡ y) ⊎ ((z : ℕ) × (ListedStep lists x z × IsFace lists z y))
-face_cases lists ok x y f = elim (reaches_cases f.walk) [
-  | inl e ↦ inl e
-  | inr g ↦ inr (g.0, (g.1.0, record { cell = ok x g.0 g.1.0; walk = g.1.1 }))
-]
+use Rattle.conley_faces.proofs.FaceLemmas.{face_itself, face_under, face_cases, face_ends}
 
 unmade-made : (xs : List ℕ) → 0 < length xs → unmade_one xs ≡ 0
 unmade-made [] lt = absurd (omega arith)
@@ -169,30 +155,35 @@ module _ (lists : List (List ℕ)) (no_cycle : (x : ℕ) → IsBelowItself lists
   never_handed_on ok x p = ends (length (up_to (length lists))) (up_to (length lists)) (omega arith) x p
       (λ y u. Contains-up_to (length lists) y (face_ends lists ok u.0 y (record { cell = ok x u.0 u.1; walk = u.2 })))
 
-module _ (lists closures : List (List ℕ)) (digraph : IsDigraph lists) (so_far : AreClosuresSoFar lists closures) where
-  -- where nothing more can be made, all are made or a cell is below itself
-  pub stuck_cycle : ((x : ℕ) → x < length lists → IsStuck lists closures x) → (x : ℕ) → x < length lists → (IsMade closures x → ⊥) → ((y : ℕ) → IsBelowItself lists y → ⊥) → ⊥
-  stuck_cycle stuck x lt unmade_x no_cycle =
-      never_handed_on lists no_cycle (λ q. (q < length lists) × (IsMade closures q → ⊥))
-      (λ q h. elim (stuck q h.0) [
-        | inl m ↦ absurd (h.1 m)
-        | inr g ↦ (g.0, (g.1.0, (digraph q g.0 g.1.0, g.1.1)))
-      ])
-      digraph x (lt, unmade_x)
+-- where nothing more can be made and no cell is below itself, all are made
+module _ (lists closures : List (List ℕ)) (digraph : IsDigraph lists) (so_far : AreClosuresSoFar lists closures)
+    (stuck : (x : ℕ) → x < length lists → IsStuck lists closures x) (no_cycle : (x : ℕ) → IsBelowItself lists x → ⊥) where
+  all_made : (x : ℕ) → x < length lists → IsMade closures x
+  all_made x lt = elim (cases_lt 0 (length (get_or closures x []))) [
+    | inl made ↦ made
+    | inr none ↦ absurd (never_handed_on lists no_cycle (λ q. (q < length lists) × (IsMade closures q → ⊥))
+        (λ q h. elim (stuck q h.0) [
+          | inl m ↦ absurd (h.1 m)
+          | inr g ↦ (g.0, (g.1.0, (digraph q g.0 g.1.0, g.1.1)))
+        ])
+        digraph x (lt, λ m. omega (arith, m, none)))
+  ]
 
-  -- closures that are all made
-  pub all_made : ((x : ℕ) → x < length closures → IsMade closures x) → AreClosures lists closures
-  all_made made = record {
+  pub closures_whole : AreClosures lists closures
+  closures_whole = record {
     height = so_far.height;
     ascending = so_far.ascending;
     faces = λ x y. (
-      (λ s. (so_far.faces x y (made x (step_begins closures x y s))).0 s),
-      (λ f. (so_far.faces x y (made x (omega (arith, f.cell, so_far.height)))).1 f),
+      (λ s. (so_far.faces x y (all_made x (let lt = step_begins closures x y s in omega (arith, lt, so_far.height)))).0 s),
+      (λ f. (so_far.faces x y (all_made x f.cell)).1 f),
     );
   }
 
-  pub all_made-no_cycle : ((x : ℕ) → x < length closures → IsMade closures x) → (x : ℕ) → IsBelowItself lists x → ⊥
-  all_made-no_cycle made x b = so_far.no_cycle x (made x (let lt = step_begins lists x b.0 b.1 in omega (arith, lt, so_far.height))) b
+-- what stands in a closure that is made is a cell
+pub closures_in_range : (lists closures : List (List ℕ)) → IsDigraph lists → AreClosuresSoFar lists closures → (x y : ℕ) → ListedStep closures x y → y < length lists
+closures_in_range lists closures digraph so_far x y s =
+    let made : IsMade closures x = omega (arith, s.1) in
+    face_ends lists digraph x y ((so_far.faces x y made).0 s)
 
 -- the lists of the cells of a set hold its closure
 pub closure_listed : (lists closures : List (List ℕ)) → AreClosures lists closures → (set : List ℕ) (y : ℕ) → IsInListOf closures set y ↔ IsInClosure lists set y

@@ -1,12 +1,11 @@
 -- The numbers of an ascending list that meet a predicate
 use Rattle.std.proofs.Common.{inl, inr, ℕ, ◌+◌, ◌<◌, ◌++◌, ◌∷◌, [], List, length, get_or, take, sym, arith, subst}
-use Rattle.std.specs.Prelude.{Contains, ◌↔◌}
+use Rattle.std.specs.Prelude.{Contains}
 use Rattle.std.specs.List.Sorted.{IsStrictlyIncreasing}
 use Rattle.std.proofs.lemmas.List.{take_more, get_or-take, length-take}
-use Rattle.std.proofs.lemmas.List.Elements.{Contains-push, Contains-push_cases, Contains-append_left, Contains-append_right, Contains-append_cases, Contains-get_or}
-use Rattle.conley_walk.specs.Lists.{ListedStep}
+use Rattle.std.proofs.lemmas.List.Elements.{Contains-push, Contains-push_cases, Contains-append_left, Contains-get_or}
 use Rattle.conley_walk.proofs.ListLemmas.{Contains-none, place_of, rises, increasing-push}
-use Rattle.conley_faces.specs.Closures.{IsPart, IsInListOf}
+use Rattle.conley_faces.specs.Closures.{IsPart}
 
 -- a number of the first k is less than number k of an ascending list
 before_less : (list : List ℕ) (k y : ℕ) → IsStrictlyIncreasing list → k < length list → Contains (take k list) y → y < get_or list k 0
@@ -21,6 +20,7 @@ module _ (P : ℕ → Type 0) (list part : List ℕ) (k : ℕ) (lt : k < length 
   abbrev x : ℕ
   x = get_or list k 0
 
+  -- it meets the predicate
   pub part-more : P (get_or list k 0) → IsPart P (take (k + 1) list) (part ++ get_or list k 0 ∷ [])
   part-more p = record {
     ascending = increasing-push part x so_far.ascending (λ i d below. before_less list k (get_or part i d) up lt ((so_far.same (get_or part i d)).0 (Contains-get_or part i d below)).0);
@@ -36,6 +36,7 @@ module _ (P : ℕ → Type 0) (list part : List ℕ) (k : ℕ) (lt : k < length 
     );
   }
 
+  -- it doesn't
   pub part-other : (P (get_or list k 0) → ⊥) → IsPart P (take (k + 1) list) part
   part-other none = record {
     ascending = so_far.ascending;
@@ -48,25 +49,9 @@ module _ (P : ℕ → Type 0) (list part : List ℕ) (k : ℕ) (lt : k < length 
     );
   }
 
+-- nothing was looked at
 pub part-none : (P : ℕ → Type 0) → IsPart P [] []
 part-none P = record {
   ascending = λ k below. absurd (omega arith);
   same = λ y. ((λ c. Contains-none y c), (λ h. Contains-none y h.0));
 }
-
--- the list of one cell more
-pub gathered-more : (lists : List (List ℕ)) (cells : List ℕ) (i : ℕ) (all : List ℕ) → i < length cells → ((y : ℕ) → Contains all y ↔ IsInListOf lists (take i cells) y) →
-    (y : ℕ) → Contains (all ++ get_or lists (get_or cells i 0) []) y ↔ IsInListOf lists (take (i + 1) cells) y
-gathered-more lists cells i all lt so_far y = rw (take_more cells i 0 lt) (
-  (λ c. elim (Contains-append_cases all (get_or lists (get_or cells i 0) []) y c) [
-    | inl old ↦ let g = (so_far y).0 old in (g.0, (Contains-append_left (take i cells) (get_or cells i 0 ∷ []) g.0 g.1.0, g.1.1))
-    | inr new ↦ (get_or cells i 0, (Contains-push (take i cells) (get_or cells i 0), new))
-  ]),
-  (λ g. elim (Contains-push_cases (take i cells) (get_or cells i 0) g.0 g.1.0) [
-    | inl old ↦ Contains-append_left all (get_or lists (get_or cells i 0) []) y ((so_far y).1 (g.0, (old, g.1.1)))
-    | inr e ↦ Contains-append_right all (get_or lists (get_or cells i 0) []) y (subst (λ q. ListedStep lists q y) (sym e) g.1.1)
-  ]),
-)
-
-pub gathered-none : (lists : List (List ℕ)) (y : ℕ) → Contains {X = ℕ} [] y ↔ IsInListOf lists [] y
-gathered-none lists y = ((λ c. Contains-none y c), (λ g. Contains-none g.0 g.1.0))
