@@ -1,14 +1,8 @@
 -- Lists that gain an entry
-use Rattle.std.proofs.Common.{◌≡◌, ◌⊎◌, inl, inr, ◌+◌, ◌<◌, ℕ, List, [], ◌∷◌, ◌++◌, Vec, length, set, get_or, get_or-set_other, get_or-set_same, refl, sym, ◌∙◌, subst, ap, arith, ℤ, true, false, zero, suc, replicate}
-use Rattle.std.specs.Prelude.{Contains, ◌↔◌}
-use Rattle.std.specs.declared.alloc.Global.{Global}
-use Rattle.std.proofs.lemmas.Bool.{cases_eq, cases_lt, cases_order, false≢true}
-use Rattle.std.proofs.lemmas.List.{map-set, length-set, length-append, get_or-replicate, length-replicate, get_or_past}
-use Rattle.std.proofs.lemmas.List.Concat.{length-flat_map}
-use Rattle.std.proofs.lemmas.List.Sums.{sum_by-set}
-use Rattle.std.proofs.lemmas.List.Elements.{Contains-push_cases, Contains-append_left, Contains-push}
-use Rattle.conley_walk.specs.Lists.{items_of, ListedStep, entries_of, PutsUnder}
-use Rattle.conley_walk.proofs.ListLemmas.{Contains-none}
+use Rattle.std.proofs.Common.{◌≡◌, ◌⊎◌, inl, inr, ◌+◌, ℕ, List, sym, ◌∙◌, subst, arith, ℤ, true, false}
+use Rattle.std.specs.Prelude.{◌↔◌}
+use Rattle.std.proofs.lemmas.Bool.{cases_order, false≢true}
+use Rattle.conley_walk.specs.Lists.{ListedStep, PutsUnder}
 use Rattle.conley_input.specs.Listing.{is_odd}
 use Rattle.conley_input.specs.Incidences.{incidence_at, IsUnder}
 

@@ -8,7 +8,7 @@ use Rattle.conley_walk.specs.Walk.{Reaches}
 use Rattle.conley_walk.specs.Lists.{ListedStep, IsDigraph}
 use Rattle.conley_walk.proofs.WalkLemmas.{reaches_itself, reaches_on, reaches_by_step, reaches_least}
 use Rattle.conley_walk.proofs.ListLemmas.{Contains-none}
-use Rattle.conley_faces.proofs.Tables.{face_ends}
+use Rattle.conley_faces.proofs.FaceLemmas.{face_ends}
 use Rattle.conley_input.specs.Problem.{Problem, IsSound}
 use Rattle.conley_tool.specs.Recurrence.{Step}
 use Rattle.conley_tool.specs.Steps.{next_of, IsNext, HasSteps}

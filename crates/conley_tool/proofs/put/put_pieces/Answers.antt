@@ -1,7 +1,7 @@
 use Rattle.std.proofs.Common.{arith, Bor, List, ℕ, []}
 use Rattle.std.proofs.lemmas.Grind.{common_steps}
 use Rattle.std.proofs.lemmas.Result.{err_from_is_err_and}
-use Rattle.conley_outside.proofs.Gains.{gains-gains}
+use Rattle.conley_outside.proofs.GainsLemmas.{gains-gains}
 use Rattle.conley_tool.proofs.PieceLemmas.{GainsPrefix-piece}
 use Rattle.conley_tool.proofs.put.put_pieces.Goals as goal
 
