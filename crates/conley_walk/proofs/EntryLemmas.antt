@@ -108,7 +108,13 @@ module _ (lists : List (List ℕ)) (x y : ℕ) (lt : x < length lists) where
       )
 
   pub puts_under : PutsUnder lists (set lists x (get_or lists x [] ++ y ∷ [])) x y
-  puts_under = record { count = length-set lists x (get_or lists x [] ++ y ∷ []); entries = puts_entries; steps = puts_steps }
+  puts_under = record {
+    count = length-set lists x (get_or lists x [] ++ y ∷ []);
+    put = get_or-set_same lists x (get_or lists x [] ++ y ∷ []) [] lt;
+    kept = λ k ne. get_or-set_other lists x k (get_or lists x [] ++ y ∷ []) [] ne;
+    entries = puts_entries;
+    steps = puts_steps;
+  }
 
 -- the same where the lists are vectors
 pub puts_under_rows : (lists : List (Vec ℕ Global)) (x y : ℕ) (old new : Vec ℕ Global) → x < length (items_of lists) → get_or (items_of lists) x [] ≡ old.items → new.items ≡ old.items ++ y ∷ [] → PutsUnder (items_of lists) (items_of (set lists x new)) x y

@@ -1,0 +1,10 @@
+pub mod RefusalLemmas
+pub mod MarkLemmas
+pub mod GapLemmas
+pub mod TextLemmas
+pub mod LabelLemmas
+pub mod IncidenceLemmas
+pub mod FaceLemmas
+pub mod FaceListLemmas
+pub mod MemberLemmas
+pub mod OnceLemmas
