@@ -1,0 +1,5 @@
+pub mod Sum
+pub mod Entries
+pub mod Listing
+pub mod Others
+pub mod Homology

@@ -1,0 +1,49 @@
+-- The faults of entries that a chain or a matrix is to be made of, each told by the number of its entry.
+--     fault_at order es k                           the fault of entry k of a chain's entries, if it has one
+--     fault_within rows columns order es k          the same of a matrix's entries
+--     IsFaultless fault n                           none of the first n entries has a fault
+--     IsFirstFault fault n error                    the error is the fault of the least of them that has one
+--     code_at es row column                         the code that the entries keep at a place, else 0
+use Rattle.std.specs.Prelude.{◌≡◌, ℕ, ◌<◌, ◌==◌, ◌&&◌, ◌||◌, nat_le, Bool, List, [], ◌∷◌, take, slice_index_or, if◌then◌else◌, Option, Some, None}
+use Rattle.std.specs.List.{list_any}
+use Rattle.std.specs.declared.alloc.AllocError.{AllocError}
+use Rattle.conley_chains.specs.declared.error.MatrixError.{MatrixError}
+use Rattle.conley_chains.specs.declared.error.MatrixError.TheVariants.{Range, Zero, Repeated, NoMemory}
+
+-- what want of memory becomes
+abbrev pub no_memory : AllocError → MatrixError → Type 0
+no_memory e error = error ≡ NoMemory
+
+-- the first of three faults of entry k that holds: something out of range, a code that is zero, a place that stood before
+abbrev pub first_of_three : ℕ → Bool → Bool → Bool → Option MatrixError
+first_of_three k out_of_range zero repeated = if out_of_range then Some (Range k) else (if zero then Some (Zero k) else (if repeated then Some (Repeated k) else None))
+
+-- whether an entry stands at this place
+abbrev pub stands : List (ℕ × ℕ) → ℕ → Bool
+stands es place = list_any (λ e. place == e.0) es
+
+-- every place is in range, and a code is where it is below the order
+abbrev pub fault_at : ℕ → List (ℕ × ℕ) → ℕ → Option MatrixError
+fault_at order es k =
+    let e = slice_index_or es k (0, 0) in
+    first_of_three k (nat_le order e.1) (e.1 == 0) (stands (take k es) e.0)
+
+-- whether an entry stands in this row and column
+abbrev pub stands_in : List (ℕ × ℕ × ℕ) → ℕ → ℕ → Bool
+stands_in es row column = list_any (λ e. (row == e.0) && (column == e.1)) es
+
+-- an entry is a row, a column and a code
+abbrev pub fault_within : ℕ → ℕ → ℕ → List (ℕ × ℕ × ℕ) → ℕ → Option MatrixError
+fault_within rows columns order es k =
+    let e = slice_index_or es k (0, 0, 0) in
+    first_of_three k (nat_le rows e.0 || nat_le columns e.1 || nat_le order e.2) (e.2 == 0) (stands_in (take k es) e.0 e.1)
+
+abbrev pub IsFaultless : (ℕ → Option MatrixError) → ℕ → Type 0
+IsFaultless fault n = (k : ℕ) → k < n → fault k ≡ None
+
+abbrev pub IsFirstFault : (ℕ → Option MatrixError) → ℕ → MatrixError → Type 0
+IsFirstFault fault n error = (k : ℕ) × ((k < n) × (fault k ≡ Some error) × ((j : ℕ) → j < k → fault j ≡ None))
+
+abbrev pub code_at : List (ℕ × ℕ × ℕ) → ℕ → ℕ → ℕ
+code_at [] row column = 0
+code_at (e ∷ es) row column = if (row == e.0) && (column == e.1) then e.2 else code_at es row column

@@ -1,0 +1,234 @@
+ghost use Rattle.std.specs.Prelude.{◌≡◌, ◌≢◌, ◌<◌, ◌++◌, [], ◌∷◌, All, AllPairs, IfOk, OnOk, OnErr, OnSome, IfSome, IfNone, ℕ, length, slice_index, drop, ◌≤◌, ◌==◌, if◌then◌else◌, ◌↔◌, ◌^◌, ◌-◌, IfErr};
+ghost use Rattle.conley_algebra.specs.Others.{other};
+ghost use Rattle.std.specs.List.Sorted.{IsStrictlyIncreasing};
+ghost use Rattle.conley_chains.specs.Chain.{coefficient, IsChain, HasCodes, first_place};
+ghost use Rattle.conley_chains.specs.Faults.{fault_at, IsFaultless, IsFirstFault};
+
+use crate::{MatrixError, NoMemory};
+use conley_field::{Field, Scalar};
+use smallvec::SmallVec;
+use std::alloc::Global;
+use std::marker::Model;
+
+/// A finite map from places to scalars other than zero.
+#[derive(Drop)]
+pub struct Chain {
+    kept: SmallVec<(u32, Scalar), 4>,
+}
+
+impl Model for Chain {
+    ghost use Rattle.std.specs.Prelude.{List, ℕ};
+    ghost use Rattle.conley_chains.specs.Chain.{IsChain};
+
+    ghost Value = { List (ℕ × ℕ) };
+
+    ghost view = { λ c. c.kept.items };
+
+    ghost invariant = { λ c. IsChain c.kept.items };
+}
+
+impl Chain {
+    pub fn new(alloc: Global) -> Chain
+        ensures { result ≡ [] }
+    {
+        Chain {
+            kept: SmallVec::new(alloc),
+        }
+    }
+
+    /// The chain with these entries.
+    pub fn from_pairs(alloc: Global, pairs: &[(u32, Scalar)]) -> Result<Chain, NoMemory>
+        requires { IsChain pairs.now }
+        ensures { IfOk result (λ chain. chain ≡ pairs.now) }
+    {
+        Ok(Chain {
+            kept: SmallVec::from_slice(alloc, pairs)?,
+        })
+    }
+
+    /// The chain with these entries.
+    pub fn from_entries<F: Field>(
+        alloc: Global,
+        field: &F,
+        entries: &[(u32, u8)],
+    ) -> Result<Chain, MatrixError>
+        requires few { length entries.now < 2 ^ 32 - 1 }
+        ensures faultless { OnOk result (IsFaultless (fault_at (F.arithmetic field.now).order entries.now) (length entries.now)) }
+        ensures entries { IfOk result (λ chain. (place : ℕ) → coefficient chain place ≡ coefficient entries.now place) }
+        ensures codes { IfOk result (HasCodes (F.arithmetic field.now)) }
+        ensures first { IfErr result (λ error. error ≢ MatrixError.NoMemory → IsFirstFault (fault_at (F.arithmetic field.now).order entries.now) (length entries.now) error) }
+    {
+        let mut chain = Chain::new(alloc);
+        for k in 0..entries.len() {
+            let e = entries[k];
+            if field.order() <= e.1 {
+                return Err(MatrixError::Range(k as u32));
+            }
+            if e.1 == 0 {
+                return Err(MatrixError::Zero(k as u32));
+            }
+            if chain.entry(e.0).code() != 0 {
+                return Err(MatrixError::Repeated(k as u32));
+            }
+            let mut single = Chain::new(alloc);
+            single.put(e.0, Scalar::of(e.1))?;
+            chain = chain.plus(alloc, field, field.one(), &single)?;
+        }
+        Ok(chain)
+    }
+
+    /// The same chain once more.
+    pub fn copy(&self, alloc: Global) -> Result<Chain, NoMemory>
+        ensures { IfOk result (λ chain. chain ≡ self.now) }
+    {
+        Chain::from_pairs(alloc, self.entries())
+    }
+
+    /// The places that are kept, with their scalars, ascending by place.
+    pub fn entries(&self) -> &[(u32, Scalar)]
+        ensures entries { result.now ≡ self.now }
+        ensures chain { IsChain self.now }
+    {
+        self.kept.as_slice()
+    }
+
+    pub fn entry(&self, place: u32) -> Scalar
+        ensures { result ≡ coefficient self.now place }
+    {
+        for e in self.kept.as_slice() {
+            if e.0 == place {
+                return e.1;
+            }
+        }
+        Scalar::of(0)
+    }
+
+    /// The entries at places other than two, numbered anew without them.
+    pub fn without(&self, alloc: Global, k: u32, q: u32) -> Result<Chain, NoMemory>
+        requires { k ≢ q }
+        ensures places { IfOk result (λ chain. (i : ℕ) → coefficient chain i ≡ coefficient self.now (other k q i)) }
+        ensures codes { IfOk result (λ chain. (n : ℕ) → All (λ e. e.1 < n) self.now → All (λ e. e.1 < n) chain) }
+    {
+        let mut rest = Chain::new(alloc);
+        for e in self.entries() {
+            if e.0 != k && e.0 != q {
+                rest.put(place_among(k, q, e.0), e.1)?;
+            }
+        }
+        Ok(rest)
+    }
+
+    /// A scalar at a place beyond all others. Zero isn't kept.
+    fn put(&mut self, place: u32, scalar: Scalar) -> Result<(), NoMemory>
+        requires { All (λ e. e.0 < place) self.old }
+        ensures codes { OnOk result ((place' : ℕ) → coefficient self.new place' ≡ (if place' == place then scalar else coefficient self.old place')) }
+        ensures places { OnOk result (All (λ e. e.0 ≤ place) self.new) }
+        ensures below { OnOk result ((n : ℕ) → scalar < n → All (λ e. e.1 < n) self.old → All (λ e. e.1 < n) self.new) }
+    {
+        if scalar.code() != 0 {
+            self.kept.push((place, scalar))?;
+        }
+        Ok(())
+    }
+
+    /// The chain plus `by` times another.
+    pub fn plus<F: Field>(
+        &self,
+        alloc: Global,
+        field: &F,
+        by: Scalar,
+        other: &Chain,
+    ) -> Result<Chain, NoMemory>
+        requires codes { HasCodes (F.arithmetic field.now) self.now }
+        requires by_below { by < (F.arithmetic field.now).order }
+        requires other_codes { HasCodes (F.arithmetic field.now) other.now }
+        ensures sum { IfOk result (λ sum. (place : ℕ) → coefficient sum place ≡ (F.arithmetic field.now).add (coefficient self.now place) ((F.arithmetic field.now).mul by (coefficient other.now place))) }
+        ensures chain { IfOk result IsChain }
+        ensures codes { IfOk result (HasCodes (F.arithmetic field.now)) }
+    {
+        let a = self.entries();
+        let b = other.entries();
+        let mut sum = Chain::new(alloc);
+        let mut i = 0;
+        let mut j = 0;
+        while i < a.len() || j < b.len() {
+            let p = next_place(a, i);
+            let q = next_place(b, j);
+            if p < q {
+                let e = a[i];
+                sum.put(e.0, e.1)?;
+                i += 1;
+            } else if q < p {
+                let f = b[j];
+                sum.put(f.0, field.mul(by, f.1))?;
+                j += 1;
+            } else {
+                let e = a[i];
+                let f = b[j];
+                sum.put(e.0, field.add(e.1, field.mul(by, f.1)))?;
+                i += 1;
+                j += 1;
+            }
+        }
+        sum.entries();
+        Ok(sum)
+    }
+
+    /// The entries at the listed places, numbered anew.
+    pub fn restrict(&self, alloc: Global, places: &[u32]) -> Result<Chain, NoMemory>
+        requires ascending { IsStrictlyIncreasing places.now }
+        requires few { length places.now < 2 ^ 32 }
+        ensures entries { IfOk result (λ part. (i : ℕ) → i < length places.now → coefficient part i ≡ coefficient self.now (slice_index places.now i)) }
+        ensures beyond { IfOk result (λ part. (i : ℕ) → length places.now ≤ i → coefficient part i ≡ 0) }
+        ensures codes { IfOk result (λ part. (n : ℕ) → All (λ e. e.1 < n) self.now → All (λ e. e.1 < n) part) }
+    {
+        let mut part = Chain::new(alloc);
+        for e in self.entries() {
+            if let Some(i) = place_of(places, e.0) {
+                part.put(i as u32, e.1)?;
+            }
+        }
+        Ok(part)
+    }
+}
+
+/// Where a number stands in an ascending list.
+fn place_of(places: &[u32], place: u32) -> Option<usize>
+    requires { IsStrictlyIncreasing places.now }
+    ensures some { IfSome result (λ i. (i < length places.now) × (slice_index places.now i ≡ place)) }
+    ensures none { IfNone result ((i : ℕ) → i < length places.now → slice_index places.now i ≢ place) }
+{
+    match places.binary_search(&place) {
+        Ok(i) => Some(i),
+        Err(_) => None,
+    }
+}
+
+/// Where a number stands among those other than two.
+fn place_among(k: u32, q: u32, number: u32) -> u32
+    requires differ { k ≢ q }
+    requires not_k { number ≢ k }
+    requires not_q { number ≢ q }
+    ensures { other k q result ≡ number }
+{
+    if number < k && number < q {
+        number
+    } else if number < k || number < q {
+        number - 1
+    } else {
+        number - 2
+    }
+}
+
+/// The place of the entry at an index, or a number beyond all places.
+fn next_place(entries: &[(u32, Scalar)], index: usize) -> u64
+    ensures place { result ≡ first_place (drop index entries.now) }
+    ensures most { result ≤ 2 ^ 32 }
+    ensures within { (result < 2 ^ 32) ↔ (index < length entries.now) }
+{
+    if index < entries.len() {
+        entries[index].0 as u64
+    } else {
+        1 << 32
+    }
+}
