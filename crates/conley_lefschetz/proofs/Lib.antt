@@ -1,0 +1,9 @@
+pub mod TextLemmas
+pub mod LabelLemmas
+pub mod IncidenceLemmas
+pub mod FaceLemmas
+pub mod FaultLemmas
+pub mod ColumnLemmas
+pub mod ComplexLemmas
+pub mod LevelLemmas
+pub mod SquareLemmas

@@ -1,0 +1,4 @@
+pub mod Listing
+pub mod Fault
+pub mod Complex
+pub mod Making
