@@ -1,3 +1,5 @@
-pub mod Tables
-pub mod Parts
-pub mod Making
+pub mod FaceLemmas
+pub mod PartLemmas
+pub mod MarkLemmas
+pub mod ClosureLemmas
+pub mod GapLemmas

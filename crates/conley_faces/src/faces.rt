@@ -1,38 +1,20 @@
 //! The faces of cells.
 
-ghost use Rattle.std.specs.Prelude.{◌≡◌, ◌<◌, ◌≤◌, ◌^◌, ◌↔◌, ℕ, [], IfOk, IfSome, IfNone, IsNone, IsTrue, Contains, length, slice_index_or};
+ghost use Rattle.std.specs.Prelude.{◌≡◌, ◌<◌, ◌≤◌, ◌^◌, ◌↔◌, ℕ, [], OnOk, IfOk, IfSome, IfNone, IsNone, IsTrue, true, false, Contains, length, slice_index_or};
 ghost use Rattle.std.specs.List.Sorted.{IsStrictlyIncreasing};
-ghost use Rattle.conley_walk.specs.Lists.{items_of, IsDigraph, entries_of, IsFirstOutOfRange, IsOrderedCopy};
-ghost use Rattle.conley_faces.specs.Face.{IsFace, IsCellList, IsGap, IsFirstGap, IsLocallyClosed, IsInClosure, IsInMouth};
-ghost use Rattle.conley_faces.specs.Closures.{IsPart};
-ghost use Rattle.conley_faces.specs.Entries.{IsFaceOrder, IsLeastBelowItself};
-ghost use Rattle.conley_faces.specs.declared.faces.FacesError.TheVariants.{NoMemory};
+ghost use Rattle.conley_walk.specs.Walk.{Reaches};
+ghost use Rattle.conley_walk.specs.Lists.{items_of, ListedStep, IsDigraph, entries_of, IsFirstOutOfRange, IsOrderedCopy};
+ghost use Rattle.conley_faces.specs.Face.{IsFace, IsCellList, IsGap, IsFirstGap, IsLocallyClosed, IsInClosure, IsInMouth, IsBelowItself, IsLeastBelowItself};
+ghost use Rattle.conley_faces.specs.FaceOrder.{IsFaceOrder};
 
-use crate::closures::{all_closures, least_below_itself};
-use crate::lists::{gathered, left_out};
+use crate::closures::{least_below_itself, made_closures};
+use crate::lists::{first_common, gathered, left_out};
+use crate::{FacesError, NoMemory};
 use conley_walk::{all_ordered, first_out_of_range, ordered, stands_in};
-use std::alloc::{AllocError, Global};
+use std::alloc::Global;
 use std::marker::Model;
 
-/// Why lists make no faces.
-#[derive(Debug, PartialEq, Eq, Drop)]
-pub enum FacesError {
-    /// This entry, counted over all lists, names no cell.
-    Range(u32),
-    /// This cell is below itself.
-    Cycle(u32),
-    NoMemory,
-}
-
-impl From<AllocError> for FacesError {
-    ghost from_gives = { λ _ e. e ≡ NoMemory };
-
-    fn from(_error: AllocError) -> FacesError {
-        FacesError::NoMemory
-    }
-}
-
-/// The faces of cells: a walk leads down to each by the cells directly under each cell.
+/// Which cells are faces of which: a walk leads down to them by the cells directly under each cell.
 #[derive(Drop)]
 pub struct Faces {
     direct: Vec<Vec<u32>>,
@@ -42,7 +24,7 @@ pub struct Faces {
 impl Model for Faces {
     ghost use Rattle.std.specs.Prelude.{ℕ, List};
     ghost use Rattle.conley_walk.specs.Lists.{items_of};
-    ghost use Rattle.conley_faces.specs.Entries.{IsFaceTable};
+    ghost use Rattle.conley_faces.specs.Closures.{IsFaceTable};
 
     ghost Value = { List (List ℕ) };
 
@@ -52,25 +34,28 @@ impl Model for Faces {
 }
 
 impl Faces {
-    /// The faces over lists of the cells directly under each cell.
+    /// The faces over lists of the cells directly under each cell, in any order, also with repeats.
+    /// `Range` comes first, then `Cycle`.
     pub fn new(alloc: Global, lists: &[Vec<u32>]) -> Result<Faces, FacesError>
         requires count { length lists.now < 2 ^ 32 }
         requires entries { length (entries_of (items_of lists.now)) < 2 ^ 32 }
         ensures range { (k : ℕ) → result ≡ Err (FacesError.Range k) → IsFirstOutOfRange (items_of lists.now) k }
         ensures cycle { (x : ℕ) → result ≡ Err (FacesError.Cycle x) → IsDigraph (items_of lists.now) × IsLeastBelowItself (items_of lists.now) x }
         ensures ok { IfOk result (λ faces. IsDigraph (items_of lists.now) × IsOrderedCopy faces (items_of lists.now)) }
+        ensures no_cycle { OnOk result ((x : ℕ) → ¬ IsBelowItself (items_of lists.now) x) }
     {
         if let Some(entry) = first_out_of_range(lists) {
             return Err(FacesError::Range(entry));
         }
         let direct = all_ordered(alloc, lists)?;
-        match all_closures(alloc, &direct)? {
-            Some(closures) => Ok(Faces { direct, closures }),
-            None => Err(FacesError::Cycle(least_below_itself(alloc, &direct)?)),
+        let closures = made_closures(alloc, &direct)?;
+        if let Some(cell) = least_below_itself(alloc, &direct, &closures)? {
+            return Err(FacesError::Cycle(cell));
         }
+        Ok(Faces { direct, closures })
     }
 
-    /// How many cells there are.
+    /// How many cells there are. It takes no memory.
     pub fn count(&self) -> usize
         ensures count { result ≡ length self.now }
         ensures order { IsFaceOrder self.now }
@@ -78,11 +63,12 @@ impl Faces {
         self.direct.len()
     }
 
-    /// The cells directly under x, ascending.
+    /// The cells directly under x, ascending and distinct. It takes no memory.
     pub fn direct(&self, x: u32) -> &[u32]
         requires { x < length self.now }
         ensures cells { result.now ≡ slice_index_or self.now x [] }
         ensures ascending { IsStrictlyIncreasing result.now }
+        ensures order { IsFaceOrder self.now }
     {
         &self.direct[x as usize]
     }
@@ -97,7 +83,7 @@ impl Faces {
         &self.closures[x as usize]
     }
 
-    /// Whether y is a face of x.
+    /// Whether y is a face of x, by binary search. It takes no memory.
     pub fn is_face(&self, x: u32, y: u32) -> bool
         requires upper { x < length self.now }
         requires lower { y < length self.now }
@@ -106,19 +92,49 @@ impl Faces {
         stands_in(self.faces_of(x), y)
     }
 
-    /// The first cell of the set that is a face of y.
+    /// The first cell of the set that is a face of y. The longer of the two lists is searched.
     fn first_face_in(&self, y: u32, set: &[u32]) -> Option<u32>
         requires cell { y < length self.now }
         requires set { IsCellList self.now set.now }
         ensures found { IfSome result (λ z. Contains set.now z × IsFace self.now y z × ((w : ℕ) → Contains set.now w → IsFace self.now y w → z ≤ w)) }
         ensures none { IfNone result ((z : ℕ) → Contains set.now z → ¬ IsFace self.now y z) }
     {
-        for z in self.faces_of(y) {
-            if stands_in(set, *z) {
-                return Some(*z);
+        let faces = self.faces_of(y);
+        if set.len() < faces.len() {
+            return first_common(set, faces);
+        }
+        first_common(faces, set)
+    }
+
+    /// Whether a step from x leads out of the set, to a cell that has a face in it.
+    fn leaves_and_returns(&self, x: u32, set: &[u32]) -> bool
+        requires cell { Contains set.now x }
+        requires set { IsCellList self.now set.now }
+        ensures yes { result ≡ true → ¬ IsLocallyClosed self.now set.now }
+        ensures no { result ≡ false → (y z : ℕ) → ListedStep self.now x y → ¬ Contains set.now y → Contains set.now z → ¬ Reaches (ListedStep self.now) y z }
+    {
+        for y in self.direct(x) {
+            if !stands_in(set, *y) {
+                if let Some(_) = self.first_face_in(*y, set) {
+                    return true;
+                }
             }
         }
-        None
+        false
+    }
+
+    /// Whether the set has a gap. Only the cells directly under those of the set are looked at.
+    fn has_gap(&self, set: &[u32]) -> bool
+        requires { IsCellList self.now set.now }
+        ensures yes { result ≡ true → ¬ IsLocallyClosed self.now set.now }
+        ensures no { result ≡ false → IsLocallyClosed self.now set.now }
+    {
+        for x in set {
+            if self.leaves_and_returns(*x, set) {
+                return true;
+            }
+        }
+        false
     }
 
     /// The first gap below the cell x.
@@ -140,19 +156,18 @@ impl Faces {
     }
 
     /// All faces of the cells of the set, ascending.
-    pub fn closure(&self, alloc: Global, set: &[u32]) -> Result<Vec<u32>, AllocError>
+    pub fn closure(&self, alloc: Global, set: &[u32]) -> Result<Vec<u32>, NoMemory>
         requires { IsCellList self.now set.now }
         ensures cells { IfOk result (λ list. IsCellList self.now list.items) }
         ensures closure { IfOk result (λ list. (y : ℕ) → Contains list.items y ↔ IsInClosure self.now set.now y) }
     {
-        let _count = self.count();
         let all = gathered(alloc, &self.closures, set)?;
         let list = ordered(alloc, &all)?;
         Ok(list)
     }
 
     /// The faces of the cells of the set that aren't in it, ascending.
-    pub fn mouth(&self, alloc: Global, set: &[u32]) -> Result<Vec<u32>, AllocError>
+    pub fn mouth(&self, alloc: Global, set: &[u32]) -> Result<Vec<u32>, NoMemory>
         requires { IsCellList self.now set.now }
         ensures cells { IfOk result (λ list. IsCellList self.now list.items) }
         ensures mouth { IfOk result (λ list. (y : ℕ) → Contains list.items y ↔ IsInMouth self.now set.now y) }
@@ -163,7 +178,7 @@ impl Faces {
     }
 
     /// The faces y of x with z a face of y, ascending.
-    pub fn between(&self, alloc: Global, x: u32, z: u32) -> Result<Vec<u32>, AllocError>
+    pub fn between(&self, alloc: Global, x: u32, z: u32) -> Result<Vec<u32>, NoMemory>
         requires upper { x < length self.now }
         requires lower { z < length self.now }
         ensures cells { IfOk result (λ list. IsCellList self.now list.items) }
@@ -178,12 +193,15 @@ impl Faces {
         Ok(list)
     }
 
-    /// The first gap of the set, in the order of triples.
+    /// The first gap (x, y, z) of the set in the order of triples, if it isn't locally closed. It takes no memory.
     pub fn find_gap(&self, set: &[u32]) -> Option<(u32, u32, u32)>
         requires { IsCellList self.now set.now }
         ensures none { IsNone result ↔ IsLocallyClosed self.now set.now }
         ensures gap { IfSome result (IsFirstGap self.now set.now) }
     {
+        if !self.has_gap(set) {
+            return None;
+        }
         for x in set {
             if let Some((y, z)) = self.first_gap_below(*x, set) {
                 return Some((*x, y, z));

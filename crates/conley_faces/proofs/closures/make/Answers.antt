@@ -5,7 +5,7 @@ use Rattle.std.proofs.lemmas.List.{map-set}
 use Rattle.conley_walk.specs.Lists.{items_of, ListedStep}
 use Rattle.conley_walk.proofs.ListLemmas.{row_of, row_in_range, length-items_of}
 use Rattle.conley_faces.specs.Closures.{IsMade, IsInListOf}
-use Rattle.conley_faces.proofs.Making.{closures_more, unmade-less}
+use Rattle.conley_faces.proofs.ClosureLemmas.{closures_more, unmade-less, closures_in_range}
 use Rattle.conley_faces.proofs.closures.make.Goals as goal
 use Rattle.conley_faces.proofs.closures.make.Goals.{After-drop-index_mut}
 
@@ -21,8 +21,8 @@ returns-then-not-are_made-clause-stuck c = λ _.
     let g = rw (c.deref-2.ensures.value, c.deref.ensures.value) at (c.if-not-are_made.ensures.no refl) in
     inr (g.0, (rw row g.1.0, g.1.1))
 
-pub closure_over-requires : goal.closure_over-requires
-closure_over-requires c =
+pub closure_over-requires-clause-heads : goal.closure_over-requires-clause-heads
+closure_over-requires-clause-heads c =
     let width : length c.args.closures.now.items ≡ length c.args.direct.now = sym (length-items_of c.args.closures.now.items) ∙ c.requires.state.height ∙ length-items_of c.args.direct.now in
     rw (c.deref-4.ensures.value, c.deref-3.ensures.value, width)
     (row_in_range c.args.direct.now c.args.x c.index-direct-x.result c.requires.digraph c.requires.cell c.index-direct-x.is)
@@ -55,3 +55,8 @@ returns-clause-more c = λ _.
     rw (map-set (λ (r : Vec ℕ Global). r.items) c.args.closures.now.items c.args.x c.in_ok-list.list)
     (unmade-less (items_of c.args.direct.now) (items_of c.args.closures.now.items) c.requires.digraph c.requires.state c.args.x (rw (length-items_of c.args.direct.now) c.requires.cell) c.in_ok-list.list.items
     (not_made c) (heads c) c.in_ok-list.ensures.ascending (same c))
+
+pub closure_over-requires-clause-range : goal.closure_over-requires-clause-range
+closure_over-requires-clause-range c = λ a y s.
+    let within = closures_in_range (items_of c.args.direct.now) (items_of c.args.closures.now.items) c.requires.digraph c.requires.state a y (rw c.deref-3.ensures.value at s) in
+    omega (arith, within, length-items_of c.args.direct.now, c.requires.width)

@@ -1,16 +1,5 @@
-use Rattle.std.proofs.Common.{get_or}
-use Rattle.conley_walk.specs.Lists.{items_of}
-use Rattle.conley_walk.proofs.ListLemmas.{row_of, take_whole}
-use Rattle.conley_faces.proofs.Parts.{gathered-more}
+use Rattle.std.proofs.Common.{arith}
 use Rattle.conley_faces.proofs.lists.gathered.Goals as goal
 
-pub loop-x-preserved : goal.loop-x-preserved
-loop-x-preserved c = λ y.
-    let cell = get_or c.args.cells.now c.loop-x.x-index 0 in
-    let lt = c.requires c.loop-x.x-index 0 c.loop-x-test.true in
-    let row = row_of c.args.lists.now cell c.index-lists-x.result lt c.index-lists-x.is in
-    let more = gathered-more (items_of c.args.lists.now) c.args.cells.now c.loop-x.x-index c.loop-x.all.items c.loop-x-test.true c.loop-x.invariant y in
-    rw (c.in_ok-extend_from_slice.ensures.items, c.deref.ensures.value, ← row) more
-
-pub returns : goal.returns
-returns c = λ y. rw (take_whole c.loop-x.x-index c.args.cells.now c.loop-x-test.false) at (c.loop-x.invariant y)
+pub marked-requires-clause-range : goal.marked-requires-clause-range
+marked-requires-clause-range c = λ x y s. let within = c.requires.range x y s in omega (arith, within, c.deref_mut.ensures.len, c.in_ok-seen.ensures.len)

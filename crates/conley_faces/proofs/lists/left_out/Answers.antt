@@ -1,8 +1,8 @@
 use Rattle.std.proofs.Common.{refl}
 use Rattle.std.specs.Prelude.{Contains}
 use Rattle.std.proofs.lemmas.Bool.{false≢true}
-use Rattle.conley_faces.proofs.Parts.{part-more, part-other}
 use Rattle.conley_walk.proofs.ListLemmas.{take_whole}
+use Rattle.conley_faces.proofs.PartLemmas.{part-more, part-other}
 use Rattle.conley_faces.proofs.lists.left_out.Goals.{then-not-stands_in+in_ok-push, else-not-stands_in}
 use Rattle.conley_faces.proofs.lists.left_out.Goals as goal
 

@@ -1,10 +1,10 @@
 use Rattle.std.proofs.Common.{◌<◌, get_or, length, refl}
 use Rattle.std.proofs.lemmas.Bool.{false≢true}
 use Rattle.std.proofs.lemmas.List.Elements.{Contains-get_or}
-use Rattle.conley_faces.specs.Face.{IsFace}
-use Rattle.conley_faces.proofs.Parts.{part-more, part-other}
 use Rattle.conley_walk.proofs.ListLemmas.{All-from_contained, take_whole}
-use Rattle.conley_faces.proofs.Tables.{face_ends}
+use Rattle.conley_faces.specs.Face.{IsFace}
+use Rattle.conley_faces.proofs.FaceLemmas.{face_ends}
+use Rattle.conley_faces.proofs.PartLemmas.{part-more, part-other}
 use Rattle.conley_faces.proofs.faces.Faces.between.Goals.{then-is_face+in_ok-push, else-is_face}
 use Rattle.conley_faces.proofs.faces.Faces.between.Goals as goal
 

@@ -1,26 +1,25 @@
-use Rattle.std.proofs.Common.{arith, ◌<◌, ◌≤◌, get_or, refl, below_more}
-use Rattle.std.proofs.lemmas.Bool.{false≢true}
-use Rattle.std.proofs.lemmas.List.Elements.{Contains-get_or}
-use Rattle.conley_walk.proofs.ListLemmas.{place_of, at_least}
+use Rattle.std.proofs.lemmas.Option.{IfSome_then}
+use Rattle.std.proofs.Common.{ℕ, Option, None, Some}
+use Rattle.std.specs.Prelude.{IfNone}
 use Rattle.conley_faces.proofs.faces.Faces.first_face_in.Goals as goal
 
-pub returns-then-stands_in-clause-found : goal.returns-then-stands_in-clause-found
-returns-then-stands_in-clause-found c =
-    let items = c.faces_of-z-items.result.now in
-    let i = c.loop-z.z-index in (
-      c.if-stands_in.ensures.0 refl,
-      (c.faces_of-z-items.ensures.faces (get_or items i 0)).0 (Contains-get_or items i 0 c.loop-z-test.true),
-      λ w h f.
-          let p = place_of items w ((c.faces_of-z-items.ensures.faces w).1 f) in
-          let before : p.0 < i → get_or items i 0 ≤ get_or items p.0 0 = λ lt. absurd (c.loop-z.invariant p.0 lt (rw p.2 h)) in
-          let least = at_least items c.faces_of-z-items.ensures.ascending i p.0 before p.1 in
-          rw p.2 at least,
-    )
+-- what follows where there is no value
+IfNone_then : (r : Option ℕ) {P Q : Type 0} → IfNone r P → (P → Q) → IfNone r Q
+IfNone_then None p on = on p
+IfNone_then (Some x) p on = tt
 
-pub loop-z-preserved : goal.loop-z-preserved
-loop-z-preserved c = below_more _ _ c.loop-z.invariant (λ d. false≢true (c.if-stands_in.ensures.1 d))
+pub returns-then-set-faces-clause-found : goal.returns-then-set-faces-clause-found
+returns-then-set-faces-clause-found c = IfSome_then c.first_common.result c.first_common.ensures.found (λ z h.
+    let faces = c.faces_of-faces.ensures.faces in
+    (h.0, (faces z).0 h.1, λ w d f. h.2 w d ((faces w).1 f)))
+
+pub returns-then-set-faces-clause-none : goal.returns-then-set-faces-clause-none
+returns-then-set-faces-clause-none c = IfNone_then c.first_common.result c.first_common.ensures.none (λ h z d f. h z d ((c.faces_of-faces.ensures.faces z).1 f))
+
+pub returns-clause-found : goal.returns-clause-found
+returns-clause-found c = IfSome_then c.first_common-2.result c.first_common-2.ensures.found (λ z h.
+    let faces = c.faces_of-faces.ensures.faces in
+    (h.1, (faces z).0 h.0, λ w d f. h.2 w ((faces w).1 f) d))
 
 pub returns-clause-none : goal.returns-clause-none
-returns-clause-none c = λ z h f.
-    let p = place_of c.faces_of-z-items.result.now z ((c.faces_of-z-items.ensures.faces z).1 f) in
-    c.loop-z.invariant p.0 (omega (arith, p.1, c.loop-z-test.false)) (rw p.2 h)
+returns-clause-none c = IfNone_then c.first_common-2.result c.first_common-2.ensures.none (λ h z d f. h z ((c.faces_of-faces.ensures.faces z).1 f) d)
