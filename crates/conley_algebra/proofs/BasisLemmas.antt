@@ -5,14 +5,9 @@ use Rattle.std.proofs.lemmas.Bool.{cases_lt}
 use Rattle.conley_field.specs.Arithmetic.{Arithmetic, IsField}
 use Rattle.conley_algebra.specs.Entries.{Vector, image_of}
 use Rattle.conley_algebra.specs.Homology.{combination, IsBasisModulo}
+use Rattle.conley_algebra.specs.Subspace.{IsSubspace}
 use Rattle.conley_algebra.proofs.SumLemmas as sums
 use Rattle.conley_algebra.proofs.KernelLemmas.{kernel}
-
--- closed under sums and multiples
-pub record IsSubspace (F : Arithmetic) (Z : Vector → Type 0) : Type 0 where
-  pub zero_in : Z (λ x. 0)
-  pub add_in : (u v : Vector) → Z u → Z v → Z (λ x. F.add (u x) (v x))
-  pub mul_in : (c : ℕ) (v : Vector) → c < F.order → Z v → Z (λ x. F.mul c (v x))
 
 module _ {F : Arithmetic} (laws : IsField F) where
   pub combination_in : (Z : Vector → Type 0) → IsSubspace F Z → (r : ℕ) (z : ℕ → Vector) (a : Vector) → ((i : ℕ) → a i < F.order) → ((i : ℕ) → i < r → Z (z i)) → Z (combination F r z a)

@@ -4,9 +4,10 @@ use Rattle.std.proofs.lemmas.Bool.{cases_eq}
 use Rattle.conley_field.specs.Arithmetic.{Arithmetic, IsField}
 use Rattle.conley_algebra.specs.Entries.{Vector, Entries, image_of}
 use Rattle.conley_algebra.specs.Homology.{IsChainOn, IsRelativeCycle, IsRelativeBoundary, IsHomologyBasis}
+use Rattle.conley_algebra.specs.Subspace.{IsSubspace}
 use Rattle.conley_algebra.proofs.SumLemmas as sums
 use Rattle.conley_algebra.proofs.ImageLemmas as images
-use Rattle.conley_algebra.proofs.BasisLemmas.{IsSubspace, same_length}
+use Rattle.conley_algebra.proofs.BasisLemmas.{same_length}
 
 module _ {F : Arithmetic} (laws : IsField F) where
   -- a sum that isn't zero has a part that isn't

@@ -6,3 +6,4 @@ pub mod ColumnLemmas
 pub mod WithoutLemmas
 pub mod RestrictLemmas
 pub mod PartLemmas
+pub mod EqualLemmas

@@ -1,4 +1,4 @@
-ghost use Rattle.std.specs.Prelude.{◌≡◌, ◌≢◌, ◌<◌, ◌++◌, [], ◌∷◌, All, AllPairs, IfOk, OnOk, OnErr, OnSome, IfSome, IfNone, ℕ, length, slice_index, drop, ◌≤◌, ◌==◌, if◌then◌else◌, ◌↔◌, ◌^◌, ◌-◌, IfErr};
+ghost use Rattle.std.specs.Prelude.{◌≡◌, ◌≢◌, ◌<◌, ◌++◌, [], ◌∷◌, All, AllPairs, IfOk, OnOk, OnErr, OnSome, IfSome, IfNone, ℕ, length, slice_index, slice_index_or, drop, ◌≤◌, ◌==◌, if◌then◌else◌, ◌↔◌, ◌^◌, ◌-◌, IfErr};
 ghost use Rattle.conley_algebra.specs.Others.{other};
 ghost use Rattle.std.specs.List.Sorted.{IsStrictlyIncreasing};
 ghost use Rattle.conley_chains.specs.Chain.{coefficient, IsChain, HasCodes, first_place};
@@ -95,12 +95,13 @@ impl Chain {
     pub fn entry(&self, place: u32) -> Scalar
         ensures { result ≡ coefficient self.now place }
     {
-        for e in self.kept.as_slice() {
-            if e.0 == place {
-                return e.1;
-            }
+        let entries = self.entries();
+        let before = count_before(entries, place);
+        if before < entries.len() && entries[before].0 == place {
+            entries[before].1
+        } else {
+            Scalar::of(0)
         }
-        Scalar::of(0)
     }
 
     /// The entries at places other than two, numbered anew without them.
@@ -231,4 +232,13 @@ fn next_place(entries: &[(u32, Scalar)], index: usize) -> u64
     } else {
         1 << 32
     }
+}
+
+/// How many of the entries stand before a place.
+fn count_before(entries: &[(u32, Scalar)], place: u32) -> usize
+    requires { IsChain entries.now }
+    ensures before { (k : ℕ) (d : ℕ × ℕ) → k < result → (slice_index_or entries.now k d).0 < place }
+    ensures after { (k : ℕ) (d : ℕ × ℕ) → result ≤ k → k < length entries.now → place ≤ (slice_index_or entries.now k d).0 }
+{
+    entries.partition_point(|e| e.0 < place)
 }

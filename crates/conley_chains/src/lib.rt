@@ -7,10 +7,12 @@
 
 mod chain;
 mod error;
+mod laws;
 mod matrix;
 
 pub use chain::Chain;
 pub use error::MatrixError;
+pub use laws::{equal_codes_make_one_chain, equal_entries_make_one_matrix};
 pub use matrix::Matrix;
 use std::alloc::AllocError;
 

@@ -9,6 +9,9 @@ use conley_field::{Field, Scalar};
 use std::alloc::Global;
 use std::marker::Model;
 
+/// Up to this many columns are added one after another.
+const FEW: usize = 8;
+
 /// A finite map from rows and columns to scalars other than zero.
 #[derive(Drop)]
 pub struct Matrix {
@@ -106,8 +109,50 @@ impl Matrix {
         ensures image { IfOk result (λ image. (row : ℕ) → coefficient image row ≡ image_of (F.arithmetic field.now) (column_count self.now) (entry self.now) (coefficient chain.now) row) }
         ensures codes { IfOk result (HasCodes (F.arithmetic field.now)) }
     {
+        self.image(alloc, field, chain.entries())
+    }
+
+    /// The image of the entries of a chain. Of many entries each half is taken by itself, so that a code is added no more often than
+    /// a logarithm of their number.
+    fn image<F: Field>(
+        &self,
+        alloc: Global,
+        field: &F,
+        entries: &[(u32, Scalar)],
+    ) -> Result<Chain, NoMemory>
+        requires chain { IsChain entries.now }
+        requires fits { All (λ e. e.0 < column_count self.now) entries.now }
+        requires codes { AllCodes (F.arithmetic field.now) self.now }
+        requires chain_codes { HasCodes (F.arithmetic field.now) entries.now }
+        ensures image { IfOk result (λ image. (row : ℕ) → coefficient image row ≡ image_of (F.arithmetic field.now) (column_count self.now) (entry self.now) (coefficient entries.now) row) }
+        ensures codes { IfOk result (HasCodes (F.arithmetic field.now)) }
+    {
+        if entries.len() <= FEW {
+            return self.image_of_few(alloc, field, entries);
+        }
+        let half = entries.len() / 2;
+        let first = self.image(alloc, field, &entries[..half])?;
+        let rest = self.image(alloc, field, &entries[half..])?;
+        let sum = first.plus(alloc, field, field.one(), &rest)?;
+        Ok(sum)
+    }
+
+    /// The same, one entry after another.
+    fn image_of_few<F: Field>(
+        &self,
+        alloc: Global,
+        field: &F,
+        entries: &[(u32, Scalar)],
+    ) -> Result<Chain, NoMemory>
+        requires chain { IsChain entries.now }
+        requires fits { All (λ e. e.0 < column_count self.now) entries.now }
+        requires codes { AllCodes (F.arithmetic field.now) self.now }
+        requires chain_codes { HasCodes (F.arithmetic field.now) entries.now }
+        ensures image { IfOk result (λ image. (row : ℕ) → coefficient image row ≡ image_of (F.arithmetic field.now) (column_count self.now) (entry self.now) (coefficient entries.now) row) }
+        ensures codes { IfOk result (HasCodes (F.arithmetic field.now)) }
+    {
         let mut image = Chain::new(alloc);
-        for e in chain.entries() {
+        for e in entries {
             image = image.plus(alloc, field, e.1, self.column(e.0))?;
         }
         Ok(image)

@@ -4,14 +4,14 @@ ghost use Rattle.conley_field.specs.AnyField.{arithmetic_of, arithmetic_of-IsFie
 
 use crate::{Field, PrimeField, Scalar};
 
-/// A field of the table.
+/// Any field of the table: its calls are those of the field that it holds.
 #[derive(Clone, Copy, Debug, PartialEq, Eq)]
 pub enum AnyField {
     Prime(PrimeField),
 }
 
 impl AnyField {
-    /// The field of this order, where the table has it.
+    /// The field of this order, or `None` where the table has no such order.
     pub fn of(order: u32) -> Option<AnyField>
         ensures listed { IsSome result ↔ IsTrue (is_prime_order order) }
         ensures order { IfSome result (λ f. (arithmetic_of f).order ≡ order) }

@@ -1,10 +1,10 @@
-ghost use Rattle.std.specs.Prelude.{◌≡◌, ◌↔◌, IsSome, IfSome, IsTrue, ◌<◌};
+ghost use Rattle.std.specs.Prelude.{◌≡◌, ◌↔◌, IsSome, IfSome, IsTrue, ◌<◌, ◌≤◌};
 ghost use Rattle.conley_field.specs.Prime.{is_prime_order, residues};
 ghost use Rattle.conley_field.specs.PrimeField.{order_of, order_of-IsField};
 
 use crate::{Field, Scalar};
 
-/// The residues modulo a prime of the table.
+/// The residues modulo a prime of the table: 2, 3, 5, 7, 11, 13, 17, 19, 23, 29 or 31.
 #[derive(Clone, Copy, Debug, PartialEq, Eq)]
 pub enum PrimeField {
     Two,
@@ -21,7 +21,7 @@ pub enum PrimeField {
 }
 
 impl PrimeField {
-    /// The field of this order, where the table has it.
+    /// The field of this order, or `None` where the table has no such order. The code of an element is the residue.
     pub fn of(order: u32) -> Option<PrimeField>
         ensures listed { IsSome result ↔ IsTrue (is_prime_order order) }
         ensures order { IfSome result (λ f. order_of f ≡ order) }
@@ -51,6 +51,7 @@ impl Field for PrimeField {
     fn order(&self) -> u8
         ensures order { result ≡ order_of self.now }
         ensures above { 1 < result }
+        ensures most { result ≤ 31 }
     {
         match self {
             PrimeField::Two => 2,
@@ -89,16 +90,18 @@ impl Field for PrimeField {
     }
 
     fn add(&self, a: Scalar, b: Scalar) -> Scalar {
-        Scalar::of(((a.code() as u16 + b.code() as u16) % self.order() as u16) as u8)
+        let order = self.order();
+        let sum = a.code() + b.code();
+        Scalar::of(if sum < order { sum } else { sum - order })
     }
 
     fn neg(&self, a: Scalar) -> Scalar {
-        let order = self.order();
-        Scalar::of((order - a.code() % order) % order)
+        let code = a.code();
+        Scalar::of(if code == 0 { 0 } else { self.order() - code })
     }
 
     fn mul(&self, a: Scalar, b: Scalar) -> Scalar {
-        Scalar::of(((a.code() as u16 * b.code() as u16) % self.order() as u16) as u8)
+        Scalar::of(((a.code() as u32 * b.code() as u32) % self.order() as u32) as u8)
     }
 
     fn inv(&self, a: Scalar) -> Scalar {
