@@ -7,3 +7,4 @@ pub mod ColumnLemmas
 pub mod ComplexLemmas
 pub mod LevelLemmas
 pub mod SquareLemmas
+pub mod ConleyLemmas
