@@ -1,0 +1,10 @@
+pub mod TextLemmas
+pub mod LabelLemmas
+pub mod IncidenceLemmas
+pub mod FaceLemmas
+pub mod FaultLemmas
+pub mod ColumnLemmas
+pub mod ComplexLemmas
+pub mod LevelLemmas
+pub mod SquareLemmas
+pub mod ConleyLemmas

@@ -1,0 +1,18 @@
+//! Laws of complexes and of listings.
+
+ghost use Rattle.conley_field.specs.Arithmetic.{Arithmetic};
+ghost use Rattle.conley_lefschetz.specs.Fault.{FirstFaultIsOne};
+ghost use Rattle.conley_lefschetz.specs.Conley.{NumbersAreOne};
+
+use crate::Complex;
+use conley_field::Field;
+
+/// At most one fault of a listing is the first: its number and its place tell the rest of it.
+pub fn first_fault_is_one()
+    ensures { (F : Arithmetic) → FirstFaultIsOne F }
+{}
+
+/// The Conley numbers of a set are one list, and any two lists of cycles that show a number have its length.
+pub fn conley_numbers_are_one<F: Field>(complex: &Complex<F>)
+    ensures { NumbersAreOne (F.arithmetic complex.now.0) complex.now.1 }
+{}
