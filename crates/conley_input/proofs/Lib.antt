@@ -1,10 +1,7 @@
 pub mod RefusalLemmas
-pub mod MarkLemmas
-pub mod GapLemmas
 pub mod TextLemmas
-pub mod LabelLemmas
-pub mod IncidenceLemmas
-pub mod FaceLemmas
-pub mod FaceListLemmas
-pub mod MemberLemmas
+pub mod CellLemmas
+pub mod GapLemmas
+pub mod MarkLemmas
+pub mod PartLemmas
 pub mod OnceLemmas

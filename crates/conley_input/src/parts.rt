@@ -1,87 +1,83 @@
-// The refusals of parts, over the numbers of their cells.
-ghost use Rattle.std.specs.Prelude.{◌≡◌, ◌<◌, ◌≤◌, ◌↔◌, ℕ, [], None, All, map, Contains, length, slice_index_or, IfOk, IfSome, IfNone, OnOk, IsErrOf};
+//! The listed parts of a file, by the numbers of their cells.
+
+ghost use Rattle.std.specs.Prelude.{◌≡◌, ◌≢◌, ◌<◌, ◌≤◌, ◌↔◌, ◌++◌, ◌∷◌, ℕ, [], Some, None, All, map, Contains, length, slice_index_or, IfOk, IfSome, IfNone, OnOk, IsErrOf};
 ghost use Rattle.std.specs.List.Sorted.{IsStrictlyIncreasing};
 ghost use Rattle.conley_walk.specs.Lists.{items_of, ListedStep};
 ghost use Rattle.conley_faces.specs.Face.{IsGap};
 ghost use Rattle.conley_input.specs.Meaning.{texts, bytes_of};
+ghost use Rattle.conley_input.specs.Listing as spec;
 ghost use Rattle.conley_input.specs.Listing.{cell_of, numbers_of, parts_of};
 ghost use Rattle.conley_input.specs.Places.{FindsFirst, FindsFirstPlace, FindsFirstGap};
 ghost use Rattle.conley_input.specs.Marks.{MarksPart};
-ghost use Rattle.conley_input.specs.Refusals.{IsUnknown, StoodEarlier, IsFirstRefusal, IsClear, AreFacesOf};
-ghost use Rattle.conley_input.specs.ListingMeaning.{meaning_of};
+ghost use Rattle.conley_input.specs.Problem.{IsListedAs};
+ghost use Rattle.conley_input.specs.Refusals.{Fails, IsUnknown, StoodEarlier, IsFirstRefusal, IsClear};
 
-use crate::fault::{ReadError, Refusal, kept};
-use crate::listing::Listing;
+use crate::error::{FileFault, InputError, kept};
 use conley_faces::Faces;
+use conley_field::AnyField;
+use conley_lefschetz::Complex;
 use conley_walk::ordered;
-use indexmap::IndexSet;
 use std::alloc::{AllocError, Global};
 
 /// The number of the cell with a label.
-fn cell_of(numbers: &IndexSet<String>, label: &str) -> Option<usize>
-    ensures cell { result ≡ cell_of (bytes_of numbers.now.keys) label.now }
-    ensures within { IfSome result (λ k. k < length numbers.now.keys) }
+fn cell_of(complex: &Complex<AnyField>, label: &str) -> Option<u32>
+    ensures cell { result ≡ cell_of complex.now.1.labels label.now }
+    ensures within { IfSome result (λ k. k < length complex.now.1.dims) }
 {
-    numbers.get_index_of(label)
+    complex.cell_of(label)
 }
 
-/// The first label of a part that no cell has.
-fn unknown_in(numbers: &IndexSet<String>, part: &[String]) -> Option<usize>
-    ensures { FindsFirstPlace (length part.now) (λ k. cell_of (bytes_of numbers.now.keys) (slice_index_or (bytes_of part.now) k []) ≡ None) result }
+/// Puts an item at the end of a list.
+fn keep<T: Drop>(list: &mut Vec<T>, item: T) -> Result<(), AllocError>
+    ensures { OnOk result (list.new.items ≡ list.old.items ++ item ∷ []) }
 {
-    for (k, label) in part.iter().enumerate() {
-        if cell_of(numbers, label.as_str()).is_none() {
-            return Some(k);
-        }
-    }
-    None
+    list.push(item)?;
+    Ok(())
 }
 
-/// The first list and place whose label no cell has.
-fn first_unknown(numbers: &IndexSet<String>, parts: &[Vec<String>]) -> Option<(usize, usize)>
-    ensures { FindsFirst (IsUnknown (bytes_of numbers.now.keys) (map texts parts.now)) result }
-{
-    for (list, part) in parts.iter().enumerate() {
-        if let Some(place) = unknown_in(numbers, part) {
-            return Some((list, place));
-        }
-    }
-    None
-}
-
-/// The numbers of the cells of a part; `none` stands for a label that no cell has.
+/// The numbers of the cells of a part, or the refusal of its first label that no cell has.
 fn number_part(
     alloc: Global,
-    numbers: &IndexSet<String>,
-    none: u32,
+    complex: &Complex<AnyField>,
+    list: usize,
     part: &[String],
-) -> Result<Vec<u32>, AllocError>
-    requires { length numbers.now.keys ≤ none }
-    ensures { IfOk result (λ cells. cells.items ≡ numbers_of (bytes_of numbers.now.keys) none (bytes_of part.now)) }
+) -> Result<Vec<u32>, InputError>
+    ensures ok { IfOk result (λ cells. cells.items ≡ numbers_of complex.now.1.labels (length complex.now.1.labels) (bytes_of part.now)) }
+    ensures known { IfOk result (λ _. FindsFirstPlace (length part.now) (λ k. cell_of complex.now.1.labels (slice_index_or (bytes_of part.now) k []) ≡ None) None) }
+    ensures within { IfOk result (λ cells. All (λ x. x < length complex.now.1.dims) cells.items) }
+    ensures err { (fault : _) → IsErrOf result (InputError.Bad fault) →
+        (place : ℕ) × (fault ≡ FileFault.UnknownCell list place) × FindsFirstPlace (length part.now) (λ k. cell_of complex.now.1.labels (slice_index_or (bytes_of part.now) k []) ≡ None) (Some place) }
 {
     let mut cells = Vec::new(alloc);
-    for label in part {
-        match cell_of(numbers, label.as_str()) {
-            Some(k) => cells.push(k as u32)?,
-            None => cells.push(none)?,
+    for (place, label) in part.iter().enumerate() {
+        match cell_of(complex, label.as_str()) {
+            Some(cell) => keep(&mut cells, cell)?,
+            None => {
+                let list = kept(list)?;
+                let place = kept(place)?;
+                return Err(InputError::Bad(FileFault::UnknownCell(list, place)));
+            }
         }
     }
     Ok(cells)
 }
 
-/// The numbers of the cells of each part.
-pub(crate) fn number_parts(
+/// The numbers of the cells of each part, or the refusal of the first label that no cell has.
+fn number_parts(
     alloc: Global,
-    numbers: &IndexSet<String>,
-    none: u32,
+    complex: &Complex<AnyField>,
     parts: &[Vec<String>],
-) -> Result<Vec<Vec<u32>>, AllocError>
-    requires { length numbers.now.keys ≤ none }
-    ensures { IfOk result (λ lists. items_of lists.items ≡ map (numbers_of (bytes_of numbers.now.keys) none) (map texts parts.now)) }
+) -> Result<Vec<Vec<u32>>, InputError>
+    ensures ok { IfOk result (λ lists. items_of lists.items ≡ map (numbers_of complex.now.1.labels (length complex.now.1.labels)) (map texts parts.now)) }
+    ensures known { IfOk result (λ _. FindsFirst (IsUnknown complex.now.1.labels (map texts parts.now)) None) }
+    ensures within { IfOk result (λ lists. (k x : ℕ) → ListedStep (items_of lists.items) k x → x < length complex.now.1.dims) }
+    ensures err { (fault : _) → IsErrOf result (InputError.Bad fault) →
+        (list : ℕ) × (place : ℕ) × (fault ≡ FileFault.UnknownCell list place) × FindsFirst (IsUnknown complex.now.1.labels (map texts parts.now)) (Some (list, place)) }
 {
     let mut lists = Vec::new(alloc);
-    for part in parts {
-        lists.push(number_part(alloc, numbers, none, part)?)?;
+    for (list, part) in parts.iter().enumerate() {
+        let cells = number_part(alloc, complex, list, part)?;
+        keep(&mut lists, cells)?;
     }
     Ok(lists)
 }
@@ -115,7 +111,7 @@ fn mark_part(seen: &mut Vec<bool>, part: &[u32]) -> Option<usize>
 }
 
 /// The first list and place whose cell stood earlier.
-pub(crate) fn first_repeat(
+fn first_repeat(
     alloc: Global,
     parts: &[Vec<u32>],
     cells: usize,
@@ -133,7 +129,7 @@ pub(crate) fn first_repeat(
 }
 
 /// The first part with a gap, and its first gap.
-pub(crate) fn first_gap(
+fn first_gap(
     alloc: Global,
     faces: &Faces,
     parts: &[Vec<u32>],
@@ -150,77 +146,69 @@ pub(crate) fn first_gap(
     Ok(None)
 }
 
-/// Refuses a label that no cell has.
-pub(crate) fn refuse_unknown(listing: &Listing, numbers: &IndexSet<String>) -> Result<(), ReadError>
-    requires labels { bytes_of numbers.now.keys ≡ bytes_of listing.now.labels.items }
-    requires before { IsClear (meaning_of listing.now) 10 }
-    ensures ok { OnOk result (IsClear (meaning_of listing.now) 11) }
-    ensures err { (refusal : _) → IsErrOf result (ReadError.Refused refusal) → IsFirstRefusal (meaning_of listing.now) refusal }
-{
-    match first_unknown(numbers, &listing.parts) {
-        Some((list, place)) => {
-            let list = kept(list)?;
-            let place = kept(place)?;
-            Err(ReadError::Refused(Refusal::UnknownCell(list, place)))
-        }
-        None => Ok(()),
-    }
-}
-
 /// Refuses a cell that stood earlier.
-pub(crate) fn refuse_repeats(
-    alloc: Global,
-    listing: &Listing,
-    parts: &[Vec<u32>],
-) -> Result<(), ReadError>
-    requires parts { items_of parts.now ≡ parts_of (meaning_of listing.now) }
-    requires before { IsClear (meaning_of listing.now) 11 }
-    ensures ok { OnOk result (IsClear (meaning_of listing.now) 12) }
-    ensures err { (refusal : _) → IsErrOf result (ReadError.Refused refusal) → IsFirstRefusal (meaning_of listing.now) refusal }
+fn refuse_repeats(alloc: Global, parts: &[Vec<u32>], cells: usize) -> Result<(), InputError>
+    requires { (k x : ℕ) → ListedStep (items_of parts.now) k x → x < cells }
+    ensures ok { OnOk result (FindsFirst (StoodEarlier (items_of parts.now)) None) }
+    ensures err { (fault : _) → IsErrOf result (InputError.Bad fault) →
+        (list : ℕ) × (place : ℕ) × (fault ≡ FileFault.RepeatedCell list place) × FindsFirst (StoodEarlier (items_of parts.now)) (Some (list, place)) }
 {
-    match first_repeat(alloc, parts, listing.labels.len())? {
+    match first_repeat(alloc, parts, cells)? {
         Some((list, place)) => {
             let list = kept(list)?;
             let place = kept(place)?;
-            Err(ReadError::Refused(Refusal::RepeatedCell(list, place)))
+            Err(InputError::Bad(FileFault::RepeatedCell(list, place)))
         }
         None => Ok(()),
     }
 }
 
 /// Refuses a part without cells.
-pub(crate) fn refuse_empty(listing: &Listing) -> Result<(), ReadError>
-    requires before { IsClear (meaning_of listing.now) 12 }
-    ensures ok { OnOk result (IsClear (meaning_of listing.now) 13) }
-    ensures err { (refusal : _) → IsErrOf result (ReadError.Refused refusal) → IsFirstRefusal (meaning_of listing.now) refusal }
+fn refuse_empty(parts: &[Vec<String>]) -> Result<(), InputError>
+    ensures ok { OnOk result (FindsFirstPlace (length parts.now) (λ k. slice_index_or (map texts parts.now) k [] ≡ []) None) }
+    ensures err { (fault : _) → IsErrOf result (InputError.Bad fault) →
+        (k : ℕ) × (fault ≡ FileFault.EmptyPart k) × FindsFirstPlace (length parts.now) (λ k. slice_index_or (map texts parts.now) k [] ≡ []) (Some k) }
 {
-    match first_empty(&listing.parts) {
+    match first_empty(parts) {
         Some(k) => {
             let k = kept(k)?;
-            Err(ReadError::Refused(Refusal::EmptyPart(k)))
+            Err(InputError::Bad(FileFault::EmptyPart(k)))
         }
         None => Ok(()),
     }
 }
 
 /// Refuses a part with a gap.
-pub(crate) fn refuse_gaps(
-    alloc: Global,
-    listing: &Listing,
-    faces: &Faces,
-    parts: &[Vec<u32>],
-) -> Result<(), ReadError>
-    requires faces { AreFacesOf (meaning_of listing.now) faces.now }
-    requires parts { items_of parts.now ≡ parts_of (meaning_of listing.now) }
-    requires before { IsClear (meaning_of listing.now) 13 }
-    ensures ok { OnOk result (IsClear (meaning_of listing.now) 14) }
-    ensures err { (refusal : _) → IsErrOf result (ReadError.Refused refusal) → IsFirstRefusal (meaning_of listing.now) refusal }
+fn refuse_gaps(alloc: Global, faces: &Faces, parts: &[Vec<u32>]) -> Result<(), InputError>
+    requires { (k x : ℕ) → ListedStep (items_of parts.now) k x → x < length faces.now }
+    ensures ok { OnOk result (FindsFirstGap (λ k. IsGap faces.now (slice_index_or (items_of parts.now) k [])) None) }
+    ensures err { (fault : _) → IsErrOf result (InputError.Bad fault) →
+        (k : ℕ) × (x : ℕ) × (y : ℕ) × (z : ℕ) × (fault ≡ FileFault.NotLocallyClosed k x y z) × FindsFirstGap (λ k. IsGap faces.now (slice_index_or (items_of parts.now) k [])) (Some (k, (x, y, z))) }
 {
     match first_gap(alloc, faces, parts)? {
         Some((k, (x, y, z))) => {
             let k = kept(k)?;
-            Err(ReadError::Refused(Refusal::NotLocallyClosed(k, x, y, z)))
+            Err(InputError::Bad(FileFault::NotLocallyClosed(k, x, y, z)))
         }
         None => Ok(()),
     }
+}
+
+/// The cells of each listed part, or the first refusal of parts. It is said for each file that lists this complex and these parts.
+pub(crate) fn read_parts(
+    alloc: Global,
+    complex: &Complex<AnyField>,
+    parts: &[Vec<String>],
+) -> Result<Vec<Vec<u32>>, InputError>
+    ensures ok { (file : spec.Listing) → IsListedAs file complex.now.1 (map texts parts.now) → IsClear file 10 →
+        IfOk result (λ lists. ((fault : _) → ¬ Fails file fault) × (items_of lists.items ≡ parts_of file)) }
+    ensures cells { IfOk result (λ lists. (k x : ℕ) → ListedStep (items_of lists.items) k x → x < length complex.now.1.dims) }
+    ensures err { (file : spec.Listing) → IsListedAs file complex.now.1 (map texts parts.now) → IsClear file 10 →
+        (fault : _) → IsErrOf result (InputError.Bad fault) → IsFirstRefusal file fault }
+{
+    let lists = number_parts(alloc, complex, parts)?;
+    refuse_repeats(alloc, &lists, complex.count())?;
+    refuse_empty(parts)?;
+    refuse_gaps(alloc, complex.faces(), &lists)?;
+    Ok(lists)
 }

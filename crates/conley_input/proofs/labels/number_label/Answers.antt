@@ -1,9 +1,0 @@
-use Rattle.std.proofs.Common.{arith, ◌∙◌, sym}
-use Rattle.conley_input.proofs.LabelLemmas.{numbers_new, numbers_old}
-use Rattle.conley_input.proofs.labels.number_label.Goals as goal
-
-pub returns-then-added : goal.returns-then-added
-returns-then-added c = numbers_new c.args.numbers.now.keys c.in_ok-copy.copy c.args.label.now c.insert_full.new.self.keys c.in_ok-copy.ensures.ok (sym c.if-added.true ∙ c.in_ok-number.ensures.added) c.in_ok-number.ensures.keys
-
-pub returns : goal.returns
-returns c = numbers_old c.args.numbers.now.keys c.in_ok-copy.copy c.args.label.now c.insert_full.new.self.keys c.in_ok-number.number c.in_ok-copy.ensures.ok (grind arith) c.in_ok-number.ensures.index
