@@ -5,3 +5,4 @@ pub mod CycleLemmas
 pub mod ClassLemmas
 pub mod LineLemmas
 pub mod OneDueLemmas
+pub mod RefusalLemmas

@@ -20,7 +20,7 @@ use Rattle.conley_tool.specs.declared.outcome.Fault.TheVariants.{File}
 -- alike problems have the same steps, so the same reach
 module _ (p q : Problem) (same : AreAlike p q) where
   step_alike : (x y : ℕ) → Step p x y → Step q x y
-  step_alike x y (inl f) = inl (record { cell = omega (arith, f.cell, same.count); walk = reaches_more {Step = ListedStep p.faces} {Other = ListedStep q.faces} (λ a b. (same.steps a b).0) f.walk })
+  step_alike x y (inl f) = inl (record { cell = omega (arith, f.cell, same.count); walk = reaches_more {Step = ListedStep p.complex.faces} {Other = ListedStep q.complex.faces} (λ a b. (same.steps a b).0) f.walk })
   step_alike x y (inr s) = inr (s.0, subst (λ ps. ListedStep ps s.0 x) same.parts s.1, subst (λ ps. ListedStep ps s.0 y) same.parts s.2)
 
   reach_alike : (x y : ℕ) → Reaches (Step p) x y → Reaches (Step q) x y
@@ -34,10 +34,10 @@ alike_back p q same = record { labels = sym same.labels; parts = sym same.parts;
 
 -- the numbers of two numberings agree, cell by cell
 module _ (p q : Problem) (same : AreAlike p q) (c d : List ℕ) (cs : AreRecurrenceClasses p c) (ds : AreRecurrenceClasses q d) where
-  cells : length p.labels ≡ length q.labels
+  cells : length p.complex.labels ≡ length q.complex.labels
   cells = ap length same.labels
 
-  numbers_at : (n : ℕ) → n < length p.labels → ((x : ℕ) → x < n → slice_index c x ≡ slice_index d x) → slice_index c n ≡ slice_index d n
+  numbers_at : (n : ℕ) → n < length p.complex.labels → ((x : ℕ) → x < n → slice_index c x ≡ slice_index d x) → slice_index c n ≡ slice_index d n
   numbers_at n lt before = elim (cases_order (slice_index c n) (slice_index d n)) [
     | inl e ↦ e
     | inr other ↦ elim other [
@@ -56,7 +56,7 @@ module _ (p q : Problem) (same : AreAlike p q) (c d : List ℕ) (cs : AreRecurre
     ]
   ]
 
-  numbers_below : (n : ℕ) → n ≤ length p.labels → (x : ℕ) → x < n → slice_index c x ≡ slice_index d x
+  numbers_below : (n : ℕ) → n ≤ length p.complex.labels → (x : ℕ) → x < n → slice_index c x ≡ slice_index d x
   numbers_below zero le x lt = absurd (omega arith)
   numbers_below (suc n) le x lt = elim (cases_order x n) [
     | inl e ↦ subst (λ i. slice_index c i ≡ slice_index d i) (sym e) (numbers_at n (omega arith) (numbers_below n (omega arith)))
@@ -64,12 +64,12 @@ module _ (p q : Problem) (same : AreAlike p q) (c d : List ℕ) (cs : AreRecurre
   ]
 
   pub numbers_alike : c ≡ d
-  numbers_alike = same_number_lists c d (cs.count ∙ cells ∙ sym ds.count) (λ k lt. numbers_below (length p.labels) (omega arith) k (omega (arith, lt, cs.count)))
+  numbers_alike = same_number_lists c d (cs.count ∙ cells ∙ sym ds.count) (λ k lt. numbers_below (length p.complex.labels) (omega arith) k (omega (arith, lt, cs.count)))
 
 pub text_once : (p q : Problem) → AreAlike p q → (s t : List ℕ) → IsClassesText p s → IsClassesText q t → s ≡ t
 text_once p q same s t a b =
     let e : a.0 ≡ b.0 = numbers_alike p q same a.0 b.0 a.1 b.1 in
-    a.2 ∙ ap (λ labels. lines_of labels a.0) same.labels ∙ ap (λ c. lines_of q.labels c) e ∙ sym b.2
+    a.2 ∙ ap (λ labels. lines_of labels a.0) same.labels ∙ ap (λ c. lines_of q.complex.labels c) e ∙ sym b.2
 
 after_problem_once : (bytes : List ℕ) (a b : Due) → AfterProblem bytes (λ problem. PrintsClasses problem) a → AfterProblem bytes (λ problem. PrintsClasses problem) b → a ≡ b
 after_problem_once bytes a b (inl r) (inl s) = r.2 ∙ ap (λ f. refused (File f)) (refused_once bytes r.0 s.0 r.1 s.1) ∙ sym s.2

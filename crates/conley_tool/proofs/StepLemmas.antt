@@ -53,10 +53,17 @@ module _ (R : ℕ → ℕ → Type 0) (cells : List ℕ) (next : (x y : ℕ) →
       ] in
       subst (λ q. Reaches R q y) ex (subst (λ q. Reaches R (get_or cells hx.0 0) q) ey r)
 
-module _ (problem : Problem) (sound : IsSound problem) (digraph : IsDigraph problem.faces) (lists : List (List ℕ)) (given : HasSteps problem.faces problem.parts (length problem.parts) lists) where
-  step_only : (x y : ℕ) → x < length problem.faces → ListedStep lists x y → Step problem x y
+-- each cell has a label, a dimension and faces
+pub faces_count : (problem : Problem) → IsSound problem → length problem.complex.faces ≡ length problem.complex.dims
+faces_count problem sound = omega (arith, sound.laws.complex.faces_count, sound.laws.complex.dims_count)
+
+pub labels_count : (problem : Problem) → IsSound problem → length problem.complex.faces ≡ length problem.complex.labels
+labels_count problem sound = omega (arith, faces_count problem sound, sound.laws.labels_count)
+
+module _ (problem : Problem) (sound : IsSound problem) (digraph : IsDigraph problem.complex.faces) (lists : List (List ℕ)) (given : HasSteps problem.complex.faces problem.parts (length problem.parts) lists) where
+  step_only : (x y : ℕ) → x < length problem.complex.faces → ListedStep lists x y → Step problem x y
   step_only x y cell s = elim ((given.steps x y).0 s) [
-    | inl down ↦ inl (record { cell = cell; walk = reaches_by_step {Step = ListedStep problem.faces} {x = x} {y = y} down })
+    | inl down ↦ inl (record { cell = cell; walk = reaches_by_step {Step = ListedStep problem.complex.faces} {x = x} {y = y} down })
     | inr n ↦
         let cells = get_or problem.parts n.0 [] in
         inr (n.0, (n.2.0, n.2.1, get_or_default cells n.2.0 x 0 n.2.1 ∙ n.2.2), subst (Contains cells) n.2.3 (next_listed cells n.2.0 n.2.1))
@@ -69,13 +76,13 @@ module _ (problem : Problem) (sound : IsSound problem) (digraph : IsDigraph prob
     | inr past ↦ let e : get_or problem.parts s.0 [] ≡ [] = get_or_past problem.parts s.0 [] past in Contains-none x (subst (λ r. Contains r x) e s.1)
   ]
 
-  step_ends : (x y : ℕ) → Step problem x y → y < length problem.faces
-  step_ends x y (inl f) = face_ends problem.faces digraph x y f
-  step_ends x y (inr s) = sound.cells s.0 y s.2
+  step_ends : (x y : ℕ) → Step problem x y → y < length problem.complex.faces
+  step_ends x y (inl f) = face_ends problem.complex.faces digraph x y f
+  step_ends x y (inr s) = omega (arith, sound.cells s.0 y s.2, faces_count problem sound)
 
-  pub same_reach : (x y : ℕ) → x < length problem.faces → Reaches (ListedStep lists) x y ↔ Reaches (Step problem) x y
+  pub same_reach : (x y : ℕ) → x < length problem.complex.faces → Reaches (ListedStep lists) x y ↔ Reaches (Step problem) x y
   same_reach x y cell = (
-    (λ r. (reaches_least (λ q. (q < length problem.faces) × Reaches (Step problem) x q)
+    (λ r. (reaches_least (λ q. (q < length problem.complex.faces) × Reaches (Step problem) x q)
         (λ a b s h. let t = step_only a b h.0 s in (step_ends a b t, reaches_on h.1 (reaches_by_step {Step = Step problem} {x = a} {y = b} t)))
         r (cell, reaches_itself x)).1),
     (λ r. reaches_least (Reaches (ListedStep lists) x) (λ a b s t. reaches_on t (reach_of_step a b s)) r (reaches_itself x)),
@@ -84,5 +91,5 @@ module _ (problem : Problem) (sound : IsSound problem) (digraph : IsDigraph prob
   pub steps_digraph : IsDigraph lists
   steps_digraph x y s = elim ((given.steps x y).0 s) [
     | inl down ↦ omega (arith, digraph x y down, given.count)
-    | inr n ↦ let cells = get_or problem.parts n.0 [] in omega (arith, sound.cells n.0 y (subst (Contains cells) n.2.3 (next_listed cells n.2.0 n.2.1)), given.count)
+    | inr n ↦ let cells = get_or problem.parts n.0 [] in omega (arith, faces_count problem sound, sound.cells n.0 y (subst (Contains cells) n.2.3 (next_listed cells n.2.0 n.2.1)), given.count)
   ]

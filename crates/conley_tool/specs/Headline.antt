@@ -6,7 +6,7 @@
 use Rattle.std.specs.Prelude.{◌≡◌, ◌⊎◌, ℕ, List, length, Option, Some, None, nat_lt, if◌then◌else◌}
 use Rattle.conley_outside.specs.Depot.{Files}
 use Rattle.conley_input.specs.Problem.{Problem, Reads, Refuses}
-use Rattle.conley_input.specs.declared.problem.FileFault.{FileFault}
+use Rattle.conley_input.specs.declared.error.FileFault.{FileFault}
 use Rattle.conley_tool.specs.Words.{Command, classes}
 use Rattle.conley_tool.specs.Texts.{IsClassesText}
 use Rattle.conley_tool.specs.declared.outcome.Fault.{Fault}

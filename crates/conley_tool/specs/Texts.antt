@@ -30,4 +30,4 @@ abbrev pub lines_of : List (List ℕ) → List ℕ → List ℕ
 lines_of labels class_of = flat_map (λ x. line_at labels class_of x) (range_with_len 0 (length class_of))
 
 abbrev pub IsClassesText : Problem → List ℕ → Type 0
-IsClassesText problem text = (class_of : List ℕ) × AreRecurrenceClasses problem class_of × (text ≡ lines_of problem.labels class_of)
+IsClassesText problem text = (class_of : List ℕ) × AreRecurrenceClasses problem class_of × (text ≡ lines_of problem.complex.labels class_of)

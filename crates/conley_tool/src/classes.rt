@@ -22,8 +22,9 @@ fn class_numbers(alloc: Global, problem: &Problem) -> Result<Vec<u32>, AllocErro
     ensures few { IfOk result (λ class_of. length class_of.items < 2 ^ 32) }
     ensures low { IfOk result (λ class_of. (x : ℕ) → x < length class_of.items → slice_index class_of.items x ≤ x) }
 {
-    let _count = problem.faces.count();
-    let steps = steps_of(alloc, &problem.faces, &problem.parts)?;
+    let faces = problem.complex.faces();
+    let _order = faces.count();
+    let steps = steps_of(alloc, faces, &problem.parts)?;
     let class_of = classes(alloc, &steps)?;
     Ok(class_of)
 }
@@ -55,7 +56,7 @@ pub(crate) fn classes_text(alloc: Global, problem: &Problem) -> Result<Vec<u8>, 
     let mut next = 0;
     for x in 0..class_of.len() {
         if class_of[x] == next {
-            push_line(&mut text, &problem.labels, &members[next as usize])?;
+            push_line(&mut text, &problem.complex, &members[next as usize])?;
             next += 1;
         }
     }

@@ -8,6 +8,7 @@ mod classes;
 mod laws;
 mod outcome;
 mod put;
+mod refusal;
 mod report;
 mod steps;
 mod text;

@@ -1,9 +1,8 @@
 -- one more line
 use Rattle.std.proofs.Common.{arith, ◌≡◌, ◌<◌, ◌++◌, ℕ, List, Vec, ◌∙◌, ap, sym, length, get_or}
-use Rattle.std.specs.Prelude.{string_bytes}
 use Rattle.std.specs.List.{flat_map, range_with_len}
 use Rattle.std.specs.declared.alloc.Global.{Global}
-use Rattle.std.proofs.lemmas.List.{get_or_default, append-nil, length-map}
+use Rattle.std.proofs.lemmas.List.{get_or_default, append-nil}
 use Rattle.conley_walk.specs.Lists.{items_of}
 use Rattle.conley_walk.proofs.ListLemmas.{row_of, length-items_of}
 use Rattle.conley_input.specs.Meaning.{texts}
@@ -27,15 +26,15 @@ push_line-requires c =
     let are = rw c.deref.ensures.value at c.in_ok-members.ensures in
     let lt : c.loop-x.next < length class_of = omega (arith, c.loop-x.invariant.next.few, c.loop-x-test.true) in
     let cells = member_list class_of c.in_ok-members.members.items c.loop-x.next c.index-then-index-next.result.now are lt c.index-then-index-next.ensures in
-    rw (c.deref-then-index-next-2.ensures.value, cells, c.deref-then-index-next.ensures.value)
-    (λ k d lt'. let h = cells_within class_of c.loop-x.next (length class_of) k d lt' in omega (arith, h, c.in_ok-class_of.ensures.classes.count, length-map c.args.problem.now.labels.items string_bytes))
+    rw (c.deref-then-index-next.ensures.value, cells)
+    (λ k d lt'. let h = cells_within class_of c.loop-x.next (length class_of) k d lt' in omega (arith, h, c.in_ok-class_of.ensures.classes.count, c.requires.laws.labels_count))
 
 pub overflow_add-next : goal.overflow_add-next
 overflow_add-next c = omega (arith, c.loop-x.invariant.next.few, c.in_ok-class_of.ensures.few, c.loop-x-test.true)
 
 pub loop-x-preserved : goal.loop-x-preserved
 loop-x-preserved c =
-    let labels : List (List ℕ) = texts c.args.problem.now.labels in
+    let labels : List (List ℕ) = c.args.problem.now.complex.1.labels in
     let class_of : List ℕ = c.in_ok-class_of.class_of.items in
     let x : ℕ = c.loop-x.x in
     let inside : x < length class_of = omega (arith, c.loop-x-test.true, c.len-x-end.ensures, c.in_ok-class_of.class_of.ok.0) in
@@ -48,7 +47,7 @@ loop-x-preserved c =
           let here : get_or class_of x 0 ≡ c.loop-x.next = sym at ∙ w.if-index-next.true in
           let lt : c.loop-x.next < length class_of = omega (arith, c.loop-x.invariant.next.few, inside) in
           let cells = member_list class_of c.in_ok-members.members.items c.loop-x.next w.index-then-index-next.result.now are lt w.index-then-index-next.ensures in
-          let put = rw (w.deref-then-index-next.ensures.value, w.deref-then-index-next-2.ensures.value, cells) at w.in_ok-push_line.ensures in
+          let put = rw (w.deref-then-index-next.ensures.value, cells) at w.in_ok-push_line.ensures in
           let least = next_is_least class_of in_order c.loop-x.next x inside c.loop-x.invariant.next here in
           let e : line (labels_of labels (cells_of class_of c.loop-x.next (length class_of))) ≡ line_at labels class_of x =
           ap (λ n. line (labels_of labels (cells_of class_of n (length class_of)))) (sym here) ∙ sym (line_of_least labels class_of x least) in

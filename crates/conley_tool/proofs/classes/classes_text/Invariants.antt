@@ -7,6 +7,6 @@ use Rattle.conley_tool.proofs.classes.classes_text.Given as goal
 
 abbrev pub invariant-loop-x : goal.invariant-loop-x
 invariant-loop-x l = record {
-  text : l.text.items ≡ flat_map (λ x. line_at (texts l.problem.labels) l.class_of.items x) (range_with_len 0 l.x);
+  text : l.text.items ≡ flat_map (λ x. line_at (l.problem.complex.1.labels) l.class_of.items x) (range_with_len 0 l.x);
   next : IsNext l.class_of.items l.next l.x;
 }

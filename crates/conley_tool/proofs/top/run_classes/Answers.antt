@@ -1,6 +1,6 @@
 use Rattle.std.proofs.Common.{refl, sym, subst, inl, inr}
 use Rattle.conley_input.specs.Problem.{Reads, Refuses}
-use Rattle.conley_input.specs.declared.problem.FileFault.{FileFault}
+use Rattle.conley_input.specs.declared.error.FileFault.{FileFault}
 use Rattle.conley_input.specs.ProblemMeaning as means
 use Rattle.conley_tool.specs.declared.TheConstants.{FILE_LIMIT}
 use Rattle.conley_tool.specs.declared.outcome.Fault.TheVariants.{File}
