@@ -11,7 +11,7 @@ pub returns-in-None-clause-err : goal.returns-in-None-clause-err
 returns-in-None-clause-err c = λ fault e.
     let text = label_at c.args.part.now c.loop-place.place c.index-part-place.result c.loop-place-test.true c.index-part-place.is in
     let here : cell_of c.args.complex.now.1.labels (get_or (bytes_of c.args.part.now) c.loop-place.place []) ≡ None =
-        ap (λ l. cell_of c.args.complex.now.1.labels l) (text ∙ sym c.as_str.ensures.value) ∙ sym c.cell_of.ensures.cell ∙ c.in-None.is in
+    ap (λ l. cell_of c.args.complex.now.1.labels l) (text ∙ sym c.as_str.ensures.value) ∙ sym c.cell_of.ensures.cell ∙ c.in-None.is in
     let told : fault ≡ UnknownCell c.args.list c.loop-place.place = cc (c.in_ok-list-in-None.ensures.ok, c.in_ok-place-in-None.ensures.ok) in
     (c.loop-place.place, told, (c.loop-place-test.true, here, c.loop-place.invariant.known))
 
