@@ -6,8 +6,9 @@
 --     IsConleyBasis F c set k r cycles  every relative cycle on cells of dimension k is exactly one combination of these r plus a relative boundary
 --     AreConleyNumbers F c set numbers  for each dimension below the levels so many cycles are such a basis
 --     NumbersAreOne F c                 any two lists that meet the last two have one length, and are one
+--     RegularWhereZero F c              a set is regular exactly where all its Conley numbers are 0
 -- A chain is seen as its code at each cell. After Mrozek and Wanner; the wording is this project's own.
-use Rattle.std.specs.Prelude.{◌≡◌, ℕ, ◌<◌, List, length, slice_index}
+use Rattle.std.specs.Prelude.{◌≡◌, ◌↔◌, ℕ, ◌<◌, List, All, length, slice_index}
 use Rattle.conley_field.specs.Arithmetic.{Arithmetic}
 use Rattle.conley_algebra.specs.Entries.{Vector}
 use Rattle.conley_algebra.specs.Homology as algebra
@@ -38,3 +39,6 @@ pub record AreConleyNumbers (F : Arithmetic) (c : Layout) (set numbers : List �
 pub record NumbersAreOne (F : Arithmetic) (c : Layout) : Type 0 where
   pub one_length : (set : List ℕ) (k r s : ℕ) (z w : ℕ → Vector) → IsConleyBasis F c set k r z → IsConleyBasis F c set k s w → r ≡ s
   pub one_list : (set a b : List ℕ) → AreConleyNumbers F c set a → AreConleyNumbers F c set b → a ≡ b
+
+abbrev pub RegularWhereZero : Arithmetic → Layout → Type 0
+RegularWhereZero F c = (set numbers : List ℕ) → AreConleyNumbers F c set numbers → (IsRegular F c set ↔ All (λ r. r ≡ 0) numbers)

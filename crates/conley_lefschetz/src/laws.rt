@@ -2,7 +2,7 @@
 
 ghost use Rattle.conley_field.specs.Arithmetic.{Arithmetic};
 ghost use Rattle.conley_lefschetz.specs.Fault.{FirstFaultIsOne};
-ghost use Rattle.conley_lefschetz.specs.Conley.{NumbersAreOne};
+ghost use Rattle.conley_lefschetz.specs.Conley.{NumbersAreOne, RegularWhereZero};
 
 use crate::Complex;
 use conley_field::Field;
@@ -16,3 +16,10 @@ pub fn first_fault_is_one()
 pub fn conley_numbers_are_one<F: Field>(complex: &Complex<F>)
     ensures { NumbersAreOne (F.arithmetic complex.now.0) complex.now.1 }
 {}
+
+/// A set is regular exactly where all its Conley numbers are 0.
+pub fn regular_sets_have_zeros<F: Field>(complex: &Complex<F>)
+    ensures { RegularWhereZero (F.arithmetic complex.now.0) complex.now.1 }
+{
+    complex.field();
+}

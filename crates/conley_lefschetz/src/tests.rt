@@ -1,4 +1,6 @@
-use crate::{Complex, ComplexError, conley_numbers_are_one, first_fault_is_one};
+use crate::{
+    Complex, ComplexError, conley_numbers_are_one, first_fault_is_one, regular_sets_have_zeros,
+};
 use conley_field::{Field, PrimeField, Scalar};
 use std::alloc::{AllocError, Global};
 use std::process::Abort;
@@ -72,6 +74,7 @@ fn two_edges_and_three_vertices(rt: HostRuntime) -> Result<(), Fail> {
     assert_eq!(rt; complex.cell_of("ca"), None);
     first_fault_is_one();
     conley_numbers_are_one(&complex);
+    regular_sets_have_zeros(&complex);
     Ok(())
 }
 

@@ -1,0 +1,7 @@
+pub mod TriangularLemmas
+pub mod SplittingLemmas
+pub mod PlaceLemmas
+pub mod ColumnLemmas
+pub mod StateLemmas
+pub mod CollectedLemmas
+pub mod RelativeLemmas

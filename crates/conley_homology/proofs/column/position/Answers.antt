@@ -1,0 +1,13 @@
+use Rattle.std.proofs.Common.{arith, Err, inl, inr}
+use Rattle.std.proofs.lemmas.Bool.{cases_lt}
+use Rattle.std.proofs.lemmas.List.Sorted.{searched}
+use Rattle.conley_homology.proofs.PlaceLemmas.{not_listed, not_falling}
+use Rattle.conley_homology.proofs.column.position.Goals as goal
+
+pub returns-in-Err-clause-none : goal.returns-in-Err-clause-none
+returns-in-Err-clause-none c =
+    let found = searched c.args.set.now c.args.cell (Err c.in-Err.field-0) c.in-Err.ensures.position (not_falling c.args.set.now c.requires) in
+    not_listed c.args.set.now c.args.cell (λ k below same. elim (cases_lt k c.in-Err.field-0) [
+      | inl before ↦ omega (arith, found.1 k before)
+      | inr after ↦ omega (arith, found.2 k after below)
+    ])

@@ -1,0 +1,13 @@
+-- the cells at or above the level
+use Rattle.std.proofs.Common.{◌≤◌}
+use Rattle.conley_homology.specs.Own.{place_in, IsReducedSoFar}
+use Rattle.conley_lefschetz.specs.Listing.{dim_in}
+use Rattle.conley_homology.proofs.elimination.eliminated.Given as goal
+
+abbrev pub invariant-loop-level : goal.invariant-loop-level
+invariant-loop-level g l =
+    IsReducedSoFar (g.F.Field.arithmetic l.field) l.part.boundary.now l.part.dims.now l.part.set.now (λ j. l.level ≤ dim_in l.part.dims.now (place_in l.part.set.now j)) l.columns.kept.items l.columns.reduced.items
+    l.columns.owner.items
+
+abbrev pub decreases-loop-level : goal.decreases-loop-level
+decreases-loop-level g l = l.level

@@ -1,0 +1,3 @@
+pub mod Reduced
+pub mod Own
+pub mod Homology

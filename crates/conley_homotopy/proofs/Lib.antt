@@ -1,0 +1,9 @@
+pub mod ComposeLemmas
+pub mod PairLemmas
+pub mod PairStepLemmas
+pub mod RestrictionLemmas
+pub mod ExcisionLemmas
+pub mod ReductionLemmas
+pub mod RegradingLemmas
+pub mod UpdateLemmas
+pub mod ReducedLemmas
