@@ -1,16 +1,16 @@
 -- Chains of entries that were sorted by their places.
 use Rattle.std.specs.Prelude.{AllPairs, map}
 use Rattle.std.specs.List.Sorted.{IsPermutation}
-use Rattle.std.proofs.Common.{◌≡◌, ◌≢◌, ℕ, ◌+◌, ◌<◌, ◌≤◌, ◌==◌, nat_le, ◌||◌, Bool, true, false, List, [], ◌∷◌, ◌++◌, length, get_or, ap, sym, subst, ◌∙◌, arith, refl, inl, inr, All, None, Some, Option}
-use Rattle.std.proofs.lemmas.Bool.{cases_eq, cases_lt, eq-eqb, ne_eqb, le-leb}
+use Rattle.std.proofs.Common.{◌≡◌, ◌≢◌, ℕ, ◌<◌, ◌≤◌, ◌==◌, nat_le, ◌||◌, Bool, true, false, List, [], length, get_or, ap, sym, subst, ◌∙◌, arith, refl, inl, inr, All, None}
+use Rattle.std.proofs.lemmas.Bool.{cases_lt, eq-eqb, le-leb}
 use Rattle.std.proofs.lemmas.List.{get_or-map, get_or_default, ext_get_or, length-map, append-nil}
 use Rattle.std.proofs.Math.ListN.{get_or-eq_default}
 use Rattle.std.proofs.lemmas.List.Elements.{All-map, All-nil}
-use Rattle.std.proofs.lemmas.List.Sorted.{All-permutation, IsPermutation-map, length_permutation}
+use Rattle.std.proofs.lemmas.List.Sorted.{All-permutation, IsPermutation-map}
 use Rattle.conley_chains.specs.declared.placing.Placed.{Placed}
 use Rattle.conley_chains.specs.Chain.{coefficient, IsChain}
 use Rattle.conley_chains.specs.Matrix.{KeepsRows}
-use Rattle.conley_chains.specs.Faults.{first_of_three, pair_at, triple_at, code_at, own_fault_at, own_fault_within, is_outside, IsFaultless}
+use Rattle.conley_chains.specs.Faults.{first_of_three, pair_at, triple_at, code_at, own_fault_at, own_fault_within, IsFaultless}
 use Rattle.conley_chains.specs.Placing.{placed_at, placed_as, IsOnePlace, IsInOrder, AreApart, ArePlaced, pair_of, triple_of}
 use Rattle.conley_chains.proofs.FaultLemmas.{numbered-placed}
 use Rattle.conley_chains.proofs.PlacingLemmas.{sorted_apart}

@@ -1,12 +1,12 @@
 -- The first fault of entries, from what each is by itself and from the first place that stood before.
 use Rattle.std.specs.List.{list_any}
-use Rattle.std.proofs.Common.{◌≡◌, ◌≢◌, ℕ, zero, suc, ◌+◌, ◌<◌, ◌≤◌, ◌==◌, ◌&&◌, ◌||◌, Bool, true, false, List, [], ◌∷◌, length, get_or, take, ap, sym, subst, ◌∙◌, arith, refl, inl, inr, cond, Option, Some, None}
-use Rattle.std.proofs.lemmas.Bool.{cases_eq, cases_Bool, eq-eqb, ne_eqb}
+use Rattle.std.proofs.Common.{◌≡◌, ℕ, zero, suc, ◌<◌, ◌≤◌, ◌==◌, ◌&&◌, ◌||◌, Bool, true, false, List, [], ◌∷◌, length, get_or, take, ap, sym, ◌∙◌, arith, refl, inl, inr, cond, Some, None}
+use Rattle.std.proofs.lemmas.Bool.{cases_eq, eq-eqb, ne_eqb}
 use Rattle.conley_chains.specs.declared.error.MatrixError.{MatrixError}
-use Rattle.conley_chains.specs.declared.error.MatrixError.TheVariants.{Range, Zero, Repeated}
+use Rattle.conley_chains.specs.declared.error.MatrixError.TheVariants.{Repeated}
 use Rattle.conley_chains.specs.declared.placing.Placed.{Placed}
 use Rattle.conley_chains.specs.Faults.{first_of_three, stands, stands_in, pair_at, triple_at, IsFaultless, IsFirstFault}
-use Rattle.conley_chains.specs.Placing.{placed_at, placed_as, IsOnePlace, AreApart, IsFirstRepeat, ArePlaced}
+use Rattle.conley_chains.specs.Placing.{placed_at, IsOnePlace, AreApart, IsFirstRepeat, ArePlaced}
 
 -- one of the entries before k passes a test, or none does
 pub list_any-take : {X : Type 0} (t : X → Bool) (xs : List X) (k j : ℕ) (d : X) → j < k → k ≤ length xs → t (get_or xs j d) ≡ true → list_any t (take k xs) ≡ true

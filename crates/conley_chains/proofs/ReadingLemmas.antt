@@ -1,5 +1,5 @@
 -- The first entries of a list, read until one is at fault by itself.
-use Rattle.std.proofs.Common.{◌≡◌, ℕ, ◌+◌, ◌<◌, ◌≤◌, true, is_some, List, [], ◌∷◌, ◌++◌, length, length-append, get_or, ap, sym, ◌∙◌, arith, refl, inl, inr, Option, None, Some}
+use Rattle.std.proofs.Common.{◌≡◌, ℕ, ◌+◌, ◌<◌, true, is_some, List, [], ◌∷◌, ◌++◌, length, length-append, ap, sym, ◌∙◌, arith, refl, inl, inr, Option, None, Some}
 use Rattle.std.proofs.lemmas.Bool.{cases_eq}
 use Rattle.std.proofs.lemmas.List.{get_or_append_left}
 use Rattle.std.proofs.Math.Seq.{get_or-append_seam}

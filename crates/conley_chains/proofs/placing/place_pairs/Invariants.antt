@@ -1,4 +1,4 @@
-use Rattle.std.proofs.Common.{ℕ, length}
+use Rattle.std.proofs.Common.{length}
 use Rattle.conley_chains.specs.Faults.{pair_at, own_fault_at}
 use Rattle.conley_chains.proofs.ReadingLemmas.{IsPlacedSoFar}
 use Rattle.conley_chains.proofs.placing.place_pairs.Given as goal

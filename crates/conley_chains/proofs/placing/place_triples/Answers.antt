@@ -1,4 +1,4 @@
-use Rattle.std.proofs.Common.{◌≡◌, ◌∙◌, sym, refl, length, None, arith, rules}
+use Rattle.std.proofs.Common.{◌≡◌, ◌∙◌, sym, refl, length, None, rules}
 use Rattle.conley_chains.specs.Faults.{triple_at, own_fault_within}
 use Rattle.conley_chains.proofs.ReadingLemmas.{placed_more}
 use Rattle.conley_chains.proofs.placing.place_triples.Goals as goal

@@ -1,4 +1,4 @@
-use Rattle.std.proofs.Common.{rules, arith, length-take, length-drop, ℕ, length, ◌/◌, ◌-◌, ◌<◌, ◌≡◌, ◌∙◌, sym, ap, List, take, drop}
+use Rattle.std.proofs.Common.{arith, length-take, length-drop, ℕ, length, ◌/◌, ◌-◌, ◌<◌, ◌≡◌, ◌∙◌, ap, List, take, drop}
 use Rattle.std.proofs.lemmas.List.{take_all}
 use Rattle.std.proofs.lemmas.List.Elements.{All-take, All-drop}
 use Rattle.conley_algebra.specs.Entries.{image_of}

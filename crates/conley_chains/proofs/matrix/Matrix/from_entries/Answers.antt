@@ -1,10 +1,5 @@
-use Rattle.std.proofs.Common.{◌≡◌, ◌<◌, ◌≤◌, ◌∙◌, sym, ap, ℕ, List, [], length, take, get_or, arith, ◌==◌, subst, None, Option, inl, inr, refl}
-use Rattle.std.proofs.lemmas.Bool.{cases_lt}
-use Rattle.std.proofs.lemmas.List.{get_or_default}
-use Rattle.std.proofs.Math.ListN.{get_or-eq_default}
+use Rattle.std.proofs.Common.{length, take, arith, ◌==◌, subst, Option, refl}
 use Rattle.conley_chains.specs.declared.error.MatrixError.{MatrixError}
-use Rattle.conley_chains.specs.Chain.{coefficient}
-use Rattle.conley_chains.specs.Matrix.{entry, Table, IsTable}
 use Rattle.conley_chains.specs.Faults.{triple_at, stands_in, is_outside, own_fault_within}
 use Rattle.conley_chains.specs.Placing.{StopsAt}
 use Rattle.conley_chains.proofs.FaultLemmas.{first_fault-repeated, first_fault-own, faultless-new, new-triple, stood-triple}
