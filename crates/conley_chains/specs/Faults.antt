@@ -4,7 +4,8 @@
 --     own_fault_at, own_fault_within                the same, but for a place that stood before
 --     IsFaultless fault n                           none of the first n entries has a fault
 --     IsFirstFault fault n error                    the error is the fault of the least of them that has one
---     code_at es row column                         the code that the entries keep at a place, else 0
+--     code_at es row column                         the code that a matrix's entries keep at a place, else 0
+--     no_memory e error                             what want of memory becomes
 use Rattle.std.specs.Prelude.{◌≡◌, ℕ, ◌<◌, ◌==◌, ◌&&◌, ◌||◌, nat_le, Bool, false, List, [], ◌∷◌, take, slice_index_or, if◌then◌else◌, Option, Some, None}
 use Rattle.std.specs.List.{list_any}
 use Rattle.std.specs.declared.alloc.AllocError.{AllocError}

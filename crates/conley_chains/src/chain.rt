@@ -1,7 +1,8 @@
-ghost use Rattle.std.specs.Prelude.{◌≡◌, ◌≢◌, ◌<◌, ◌++◌, [], ◌∷◌, All, AllPairs, IfOk, OnOk, OnErr, OnSome, IfSome, IfNone, ℕ, length, map, slice_index, slice_index_or, drop, ◌≤◌, ◌==◌, if◌then◌else◌, ◌↔◌, ◌^◌, ◌-◌, IfErr};
+ghost use Rattle.std.specs.Prelude.{◌≡◌, ◌≢◌, ◌<◌, [], All, IfOk, OnOk, IfSome, IfNone, ℕ, length, map, slice_index, slice_index_or, drop, ◌≤◌, ◌==◌, if◌then◌else◌, ◌↔◌, ◌^◌, ◌-◌, IfErr};
 ghost use Rattle.conley_algebra.specs.Others.{other};
 ghost use Rattle.std.specs.List.Sorted.{IsStrictlyIncreasing};
 ghost use Rattle.conley_chains.specs.Chain.{coefficient, IsChain, HasCodes, first_place};
+ghost use Rattle.conley_chains.specs.Sums.{IsChainSum, IsChainPart};
 ghost use Rattle.conley_chains.specs.Placing.{pair_of};
 ghost use Rattle.conley_chains.specs.Faults.{fault_at, IsFaultless, IsFirstFault};
 
@@ -60,7 +61,8 @@ impl Chain {
         ensures faultless { OnOk result (IsFaultless (fault_at (F.arithmetic field.now).order entries.now) (length entries.now)) }
         ensures entries { IfOk result (λ chain. (place : ℕ) → coefficient chain place ≡ coefficient entries.now place) }
         ensures codes { IfOk result (HasCodes (F.arithmetic field.now)) }
-        ensures first { IfErr result (λ error. error ≢ MatrixError.NoMemory → IsFirstFault (fault_at (F.arithmetic field.now).order entries.now) (length entries.now) error) }
+        ensures first { IfErr result (λ error. error ≢ MatrixError.NoMemory →
+            IsFirstFault (fault_at (F.arithmetic field.now).order entries.now) (length entries.now) error) }
     {
         let (mut placed, fault) = place_pairs(alloc, field.order(), entries)?;
         if let Some(k) = sort_by_place(&mut placed) {
@@ -151,7 +153,7 @@ impl Chain {
         requires codes { HasCodes (F.arithmetic field.now) self.now }
         requires by_below { by < (F.arithmetic field.now).order }
         requires other_codes { HasCodes (F.arithmetic field.now) other.now }
-        ensures sum { IfOk result (λ sum. (place : ℕ) → coefficient sum place ≡ (F.arithmetic field.now).add (coefficient self.now place) ((F.arithmetic field.now).mul by (coefficient other.now place))) }
+        ensures sum { IfOk result (IsChainSum (F.arithmetic field.now) self.now by other.now) }
         ensures chain { IfOk result IsChain }
         ensures codes { IfOk result (HasCodes (F.arithmetic field.now)) }
     {
@@ -187,7 +189,7 @@ impl Chain {
     pub fn restrict(&self, alloc: Global, places: &[u32]) -> Result<Chain, NoMemory>
         requires ascending { IsStrictlyIncreasing places.now }
         requires few { length places.now < 2 ^ 32 }
-        ensures entries { IfOk result (λ part. (i : ℕ) → i < length places.now → coefficient part i ≡ coefficient self.now (slice_index places.now i)) }
+        ensures entries { IfOk result (IsChainPart places.now self.now) }
         ensures beyond { IfOk result (λ part. (i : ℕ) → length places.now ≤ i → coefficient part i ≡ 0) }
         ensures codes { IfOk result (λ part. (n : ℕ) → All (λ e. e.1 < n) self.now → All (λ e. e.1 < n) part) }
     {

@@ -1,8 +1,8 @@
-ghost use Rattle.std.specs.Prelude.{◌≡◌, ◌≢◌, ◌<◌, ◌≤◌, ◌==◌, ◌-◌, [], All, AllPairs, map, IfOk, IfErr, OnOk, OnErr, ℕ, ◌^◌, length, slice_index, slice_index_or, if◌then◌else◌};
+ghost use Rattle.std.specs.Prelude.{◌≡◌, ◌≢◌, ◌<◌, ◌≤◌, ◌==◌, ◌-◌, [], All, AllPairs, map, IfOk, IfErr, OnOk, OnErr, ℕ, ◌^◌, length, slice_index_or};
 ghost use Rattle.std.specs.List.Sorted.{IsStrictlyIncreasing};
-ghost use Rattle.conley_algebra.specs.Entries.{product_of, image_of};
 ghost use Rattle.conley_chains.specs.Chain.{coefficient, IsChain, HasCodes};
 ghost use Rattle.conley_chains.specs.Faults.{fault_within, code_at, IsFaultless, IsFirstFault};
+ghost use Rattle.conley_chains.specs.Sums.{IsImage, IsProduct, IsMatrixSum, AddsColumn, IsMatrixPart};
 ghost use Rattle.conley_chains.specs.Placing.{placed_at, IsInOrder, AreApart, triple_of};
 ghost use Rattle.conley_chains.specs.Matrix.{Table, entry, column_count, AllCodes, KeepsRows, AreColumns, IsTable};
 
@@ -46,7 +46,8 @@ impl Matrix {
         ensures faultless { OnOk result (IsFaultless (fault_within rows columns (F.arithmetic field.now).order entries.now) (length entries.now)) }
         ensures entries { IfOk result (λ matrix. (row column : ℕ) → entry matrix row column ≡ code_at entries.now row column) }
         ensures table { IfOk result (IsTable (F.arithmetic field.now) rows columns) }
-        ensures first { IfErr result (λ error. error ≢ MatrixError.NoMemory → IsFirstFault (fault_within rows columns (F.arithmetic field.now).order entries.now) (length entries.now) error) }
+        ensures first { IfErr result (λ error. error ≢ MatrixError.NoMemory →
+            IsFirstFault (fault_within rows columns (F.arithmetic field.now).order entries.now) (length entries.now) error) }
     {
         let (mut placed, fault) = place_triples(alloc, rows, columns, field.order(), entries)?;
         if let Some(k) = sort_by_place(&mut placed) {
@@ -115,7 +116,7 @@ impl Matrix {
         requires source_within { source < column_count self.old }
         requires codes { AllCodes (F.arithmetic field.now) self.old }
         requires by_below { by < (F.arithmetic field.now).order }
-        ensures entries { OnOk result ((row column : ℕ) → entry self.new row column ≡ (if column == target then (F.arithmetic field.now).add (entry self.old row target) ((F.arithmetic field.now).mul by (entry self.old row source)) else entry self.old row column)) }
+        ensures entries { OnOk result (AddsColumn (F.arithmetic field.now) self.old target source by self.new) }
         ensures rows { self.new.rows ≡ self.old.rows }
         ensures columns { column_count self.new ≡ column_count self.old }
         ensures codes { AllCodes (F.arithmetic field.now) self.new }
@@ -139,7 +140,7 @@ impl Matrix {
         requires fits { (place : ℕ) → column_count self.now ≤ place → coefficient chain.now place ≡ 0 }
         requires codes { AllCodes (F.arithmetic field.now) self.now }
         requires chain_codes { HasCodes (F.arithmetic field.now) chain.now }
-        ensures image { IfOk result (λ image. (row : ℕ) → coefficient image row ≡ image_of (F.arithmetic field.now) (column_count self.now) (entry self.now) (coefficient chain.now) row) }
+        ensures image { IfOk result (IsImage (F.arithmetic field.now) self.now chain.now) }
         ensures codes { IfOk result (HasCodes (F.arithmetic field.now)) }
     {
         self.image(alloc, field, chain.entries())
@@ -157,7 +158,7 @@ impl Matrix {
         requires fits { All (λ e. e.0 < column_count self.now) entries.now }
         requires codes { AllCodes (F.arithmetic field.now) self.now }
         requires chain_codes { HasCodes (F.arithmetic field.now) entries.now }
-        ensures image { IfOk result (λ image. (row : ℕ) → coefficient image row ≡ image_of (F.arithmetic field.now) (column_count self.now) (entry self.now) (coefficient entries.now) row) }
+        ensures image { IfOk result (IsImage (F.arithmetic field.now) self.now entries.now) }
         ensures codes { IfOk result (HasCodes (F.arithmetic field.now)) }
     {
         if entries.len() <= FEW {
@@ -181,7 +182,7 @@ impl Matrix {
         requires fits { All (λ e. e.0 < column_count self.now) entries.now }
         requires codes { AllCodes (F.arithmetic field.now) self.now }
         requires chain_codes { HasCodes (F.arithmetic field.now) entries.now }
-        ensures image { IfOk result (λ image. (row : ℕ) → coefficient image row ≡ image_of (F.arithmetic field.now) (column_count self.now) (entry self.now) (coefficient entries.now) row) }
+        ensures image { IfOk result (IsImage (F.arithmetic field.now) self.now entries.now) }
         ensures codes { IfOk result (HasCodes (F.arithmetic field.now)) }
     {
         let mut image = Chain::new(alloc);
@@ -202,7 +203,7 @@ impl Matrix {
         requires fits { right.now.rows ≡ column_count self.now }
         requires codes { AllCodes (F.arithmetic field.now) self.now }
         requires right_codes { AllCodes (F.arithmetic field.now) right.now }
-        ensures product { IfOk result (λ product. (row column : ℕ) → entry product row column ≡ product_of (F.arithmetic field.now) (column_count self.now) (entry self.now) (entry right.now) row column) }
+        ensures product { IfOk result (IsProduct (F.arithmetic field.now) self.now right.now) }
         ensures table { IfOk result (IsTable (F.arithmetic field.now) self.now.rows (column_count right.now)) }
     {
         let rows = self.row_count;
@@ -240,7 +241,7 @@ impl Matrix {
         requires codes { AllCodes (F.arithmetic field.now) self.now }
         requires other_codes { AllCodes (F.arithmetic field.now) other.now }
         requires by_below { by < (F.arithmetic field.now).order }
-        ensures sum { IfOk result (λ sum. (row column : ℕ) → entry sum row column ≡ (F.arithmetic field.now).add (entry self.now row column) ((F.arithmetic field.now).mul by (entry other.now row column))) }
+        ensures sum { IfOk result (IsMatrixSum (F.arithmetic field.now) self.now by other.now) }
         ensures table { IfOk result (IsTable (F.arithmetic field.now) self.now.rows (column_count self.now)) }
     {
         let rows = self.row_count;
@@ -257,7 +258,7 @@ impl Matrix {
         requires rows_ascend { IsStrictlyIncreasing rows.now }
         requires columns_within { All (λ c. c < column_count self.now) columns.now }
         requires few { length rows.now < 2 ^ 32 }
-        ensures entries { IfOk result (λ part. (i j : ℕ) → i < length rows.now → j < length columns.now → entry part i j ≡ entry self.now (slice_index rows.now i) (slice_index columns.now j)) }
+        ensures entries { IfOk result (IsMatrixPart rows.now columns.now self.now) }
         ensures rows { IfOk result (λ part. part.rows ≡ length rows.now) }
         ensures columns { IfOk result (λ part. column_count part ≡ length columns.now) }
         ensures codes { IfOk result (λ part. (n : ℕ) → All (λ c. All (λ e. e.1 < n) c) self.now.columns → All (λ c. All (λ e. e.1 < n) c) part.columns) }
