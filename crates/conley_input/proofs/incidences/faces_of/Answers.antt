@@ -16,14 +16,23 @@ face_lists-requires c =
     let same : length file.dims ≡ length file.labels = omega (arith, c.requires.dims, labels) in
     rw c.deref.ensures.value (λ k lt. omega (arith, (ends file c.requires.before same k lt).0, c.len.ensures, c.args.listing.now.labels.ok.0, labels))
 
-pub new-requires-clause-count : goal.new-requires-clause-count
-new-requires-clause-count c =
+pub new-requires : goal.new-requires
+new-requires c =
+    let file = meaning_of c.args.listing.now in
     let labels = length-bytes_of c.args.listing.now.labels.items in
-    omega (arith, ap length c.deref-2.ensures.value, c.in_ok-lists.ensures.count, c.len.ensures, c.args.listing.now.labels.ok.0, labels, few_labels (meaning_of c.args.listing.now) 8 (lit< tt) c.requires.before)
-
-pub new-requires-clause-entries : goal.new-requires-clause-entries
-new-requires-clause-entries c =
-    omega (arith, ap (λ l. length (entries_of (items_of l))) c.deref-2.ensures.value, c.in_ok-lists.ensures.entries, ap length c.deref.ensures.value, few_incidences (meaning_of c.args.listing.now) 8 (lit< tt) c.requires.before)
+    omega (
+      arith,
+      ap length c.deref-2.ensures.value,
+      c.in_ok-lists.ensures.count,
+      c.len.ensures,
+      c.args.listing.now.labels.ok.0,
+      labels,
+      few_labels file 8 (lit< tt) c.requires.before,
+      ap (λ l. length (entries_of (items_of l))) c.deref-2.ensures.value,
+      c.in_ok-lists.ensures.entries,
+      ap length c.deref.ensures.value,
+      few_incidences file 8 (lit< tt) c.requires.before,
+    )
 
 pub returns-in-Ok-clause-ok : goal.returns-in-Ok-clause-ok
 returns-in-Ok-clause-ok c =
