@@ -55,7 +55,7 @@ module _ (copy lists : List (List ℕ)) (ordered : IsOrderedCopy copy lists) whe
   digraph_same ok x y s = subst (λ n. y < n) (sym ordered.count) (ok x y ((ordered.same x y).0 s))
 
 -- the entries with one list more
-entries_push : (rows : List (Vec ℕ Global)) (row : Vec ℕ Global) → entries_of (items_of (rows ++ row ∷ [])) ≡ entries_of (items_of rows) ++ row.items
+pub entries_push : (rows : List (Vec ℕ Global)) (row : Vec ℕ Global) → entries_of (items_of (rows ++ row ∷ [])) ≡ entries_of (items_of rows) ++ row.items
 entries_push rows row = rw (entries_append rows (row ∷ [])) (ap (λ (q : List ℕ). entries_of (items_of rows) ++ q) (append-nil row.items))
 
 -- one list more in order
