@@ -54,10 +54,14 @@ module _ (copy lists : List (List ℕ)) (ordered : IsOrderedCopy copy lists) whe
   pub digraph_same : IsDigraph lists → IsDigraph copy
   digraph_same ok x y s = subst (λ n. y < n) (sym ordered.count) (ok x y ((ordered.same x y).0 s))
 
+-- the entries with one list more
+pub entries_push : (rows : List (Vec ℕ Global)) (row : Vec ℕ Global) → entries_of (items_of (rows ++ row ∷ [])) ≡ entries_of (items_of rows) ++ row.items
+entries_push rows row = rw (entries_append rows (row ∷ [])) (ap (λ (q : List ℕ). entries_of (items_of rows) ++ q) (append-nil row.items))
+
 -- one list more in order
 pub ordered_more : (copies lists : List (Vec ℕ Global)) (copy list : Vec ℕ Global) → IsOrderedCopy (items_of copies) (items_of lists) → IsStrictlyIncreasing copy.items → ((y : ℕ) → Contains copy.items y ↔ Contains list.items y) →
-    IsOrderedCopy (items_of (copies ++ copy ∷ [])) (items_of (lists ++ list ∷ []))
-ordered_more copies lists copy list so_far rising has = record {
+    length copy.items ≤ length list.items → IsOrderedCopy (items_of (copies ++ copy ∷ [])) (items_of (lists ++ list ∷ []))
+ordered_more copies lists copy list so_far rising has short = record {
   count = simp (map-append, length-append) (omega (arith, so_far.count));
   ascending = λ x. elim (cases_order x n) [
     | inl e ↦ rw (row_at_end copies copy x n refl e) rising
@@ -76,6 +80,7 @@ ordered_more copies lists copy list so_far rising has = record {
           rw (none, none') ((λ h. h), (λ h. h))
     ]
   ];
+  entries = rw (entries_push copies copy, entries_push lists list) (simp length-append (omega (arith, so_far.entries, short)));
 }
   where
     n : ℕ
