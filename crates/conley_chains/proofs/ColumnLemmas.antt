@@ -1,14 +1,14 @@
 -- Matrices made column by column.
-use Rattle.std.proofs.Common.{◌≡◌, ◌≢◌, ℕ, zero, suc, ◌+◌, ◌<◌, ◌≤◌, List, [], ◌∷◌, ◌++◌, length, length-append, get_or, ap, sym, subst, ◌∙◌, arith, refl, inl, inr, cond, All}
-use Rattle.std.proofs.lemmas.List.Elements.{All-nil, All-push, All-tail}
+use Rattle.std.proofs.Common.{◌≡◌, ℕ, ◌+◌, ◌<◌, ◌≤◌, List, [], ◌∷◌, ◌++◌, length, length-append, get_or, ap, sym, subst, ◌∙◌, arith, refl, inl, inr, All}
+use Rattle.std.proofs.lemmas.List.Elements.{All-nil, All-push}
 use Rattle.std.proofs.Math.Seq.{get_or-append_seam}
 use Rattle.std.proofs.Math.ListN.{get_or-eq_default}
 use Rattle.std.proofs.lemmas.List.{get_or_append_left}
-use Rattle.std.proofs.lemmas.Bool.{cases_eq, cases_lt, eq-eqb, ne_eqb}
+use Rattle.std.proofs.lemmas.Bool.{cases_eq, cases_lt}
 use Rattle.conley_field.specs.Arithmetic.{Arithmetic, IsField}
 use Rattle.conley_algebra.specs.Entries.{Entries, IsMatrix}
 use Rattle.conley_algebra.proofs.SumLemmas as sums
-use Rattle.conley_chains.specs.Chain.{coefficient, IsChain, HasCodes}
+use Rattle.conley_chains.specs.Chain.{coefficient, HasCodes}
 use Rattle.conley_chains.specs.Matrix.{Table, entry, KeepsRows, IsTable}
 use Rattle.conley_chains.proofs.ChainLemmas.{coefficient-below}
 

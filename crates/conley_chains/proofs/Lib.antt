@@ -7,3 +7,8 @@ pub mod WithoutLemmas
 pub mod RestrictLemmas
 pub mod PartLemmas
 pub mod EqualLemmas
+pub mod PlacingLemmas
+pub mod ReadingLemmas
+pub mod CodeLemmas
+pub mod EntriesLemmas
+pub mod RunLemmas

@@ -1,10 +1,12 @@
 -- The faults of entries that a chain or a matrix is to be made of, each told by the number of its entry.
 --     fault_at order es k                           the fault of entry k of a chain's entries, if it has one
 --     fault_within rows columns order es k          the same of a matrix's entries
+--     own_fault_at, own_fault_within                the same, but for a place that stood before
 --     IsFaultless fault n                           none of the first n entries has a fault
 --     IsFirstFault fault n error                    the error is the fault of the least of them that has one
---     code_at es row column                         the code that the entries keep at a place, else 0
-use Rattle.std.specs.Prelude.{◌≡◌, ℕ, ◌<◌, ◌==◌, ◌&&◌, ◌||◌, nat_le, Bool, List, [], ◌∷◌, take, slice_index_or, if◌then◌else◌, Option, Some, None}
+--     code_at es row column                         the code that a matrix's entries keep at a place, else 0
+--     no_memory e error                             what want of memory becomes
+use Rattle.std.specs.Prelude.{◌≡◌, ℕ, ◌<◌, ◌==◌, ◌&&◌, ◌||◌, nat_le, Bool, false, List, [], ◌∷◌, take, slice_index_or, if◌then◌else◌, Option, Some, None}
 use Rattle.std.specs.List.{list_any}
 use Rattle.std.specs.declared.alloc.AllocError.{AllocError}
 use Rattle.conley_chains.specs.declared.error.MatrixError.{MatrixError}
@@ -22,21 +24,35 @@ first_of_three k out_of_range zero repeated = if out_of_range then Some (Range k
 abbrev pub stands : List (ℕ × ℕ) → ℕ → Bool
 stands es place = list_any (λ e. place == e.0) es
 
--- every place is in range, and a code is where it is below the order
+-- a chain's entry is a place and a code; every place is in range, and a code is where it is below the order
+abbrev pub pair_at : List (ℕ × ℕ) → ℕ → ℕ × ℕ
+pair_at es k = slice_index_or es k (0, 0)
+
 abbrev pub fault_at : ℕ → List (ℕ × ℕ) → ℕ → Option MatrixError
-fault_at order es k =
-    let e = slice_index_or es k (0, 0) in
-    first_of_three k (nat_le order e.1) (e.1 == 0) (stands (take k es) e.0)
+fault_at order es k = first_of_three k (nat_le order (pair_at es k).1) ((pair_at es k).1 == 0) (stands (take k es) (pair_at es k).0)
+
+-- its fault by itself, whatever stands before
+abbrev pub own_fault_at : ℕ → List (ℕ × ℕ) → ℕ → Option MatrixError
+own_fault_at order es k = first_of_three k (nat_le order (pair_at es k).1) ((pair_at es k).1 == 0) false
 
 -- whether an entry stands in this row and column
 abbrev pub stands_in : List (ℕ × ℕ × ℕ) → ℕ → ℕ → Bool
 stands_in es row column = list_any (λ e. (row == e.0) && (column == e.1)) es
 
--- an entry is a row, a column and a code
+-- a matrix's entry is a row, a column and a code
+abbrev pub triple_at : List (ℕ × ℕ × ℕ) → ℕ → ℕ × ℕ × ℕ
+triple_at es k = slice_index_or es k (0, 0, 0)
+
+-- whether an entry is beyond the rows, the columns or the codes
+abbrev pub is_outside : ℕ → ℕ → ℕ → ℕ × ℕ × ℕ → Bool
+is_outside rows columns order e = nat_le rows e.0 || nat_le columns e.1 || nat_le order e.2
+
 abbrev pub fault_within : ℕ → ℕ → ℕ → List (ℕ × ℕ × ℕ) → ℕ → Option MatrixError
 fault_within rows columns order es k =
-    let e = slice_index_or es k (0, 0, 0) in
-    first_of_three k (nat_le rows e.0 || nat_le columns e.1 || nat_le order e.2) (e.2 == 0) (stands_in (take k es) e.0 e.1)
+    first_of_three k (is_outside rows columns order (triple_at es k)) ((triple_at es k).2 == 0) (stands_in (take k es) (triple_at es k).0 (triple_at es k).1)
+
+abbrev pub own_fault_within : ℕ → ℕ → ℕ → List (ℕ × ℕ × ℕ) → ℕ → Option MatrixError
+own_fault_within rows columns order es k = first_of_three k (is_outside rows columns order (triple_at es k)) ((triple_at es k).2 == 0) false
 
 abbrev pub IsFaultless : (ℕ → Option MatrixError) → ℕ → Type 0
 IsFaultless fault n = (k : ℕ) → k < n → fault k ≡ None

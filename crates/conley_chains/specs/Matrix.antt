@@ -1,4 +1,11 @@
 -- What a contract sees of a matrix: its number of rows, and its columns as chains.
+--     Table                      rows and columns
+--     entry m row column         the code in a row and a column, else 0
+--     column_count m             the number of columns
+--     AllCodes F m               every code is below the order of the field
+--     KeepsRows rows columns     nothing is kept beyond the rows
+--     AreColumns rows columns    that, and each column is a chain
+--     IsTable F m n t            m rows and n columns of codes
 use Rattle.std.specs.Prelude.{◌≡◌, ℕ, ◌≤◌, List, [], length, slice_index_or, All}
 use Rattle.conley_field.specs.Arithmetic.{Arithmetic}
 use Rattle.conley_chains.specs.Chain.{coefficient, IsChain, HasCodes}

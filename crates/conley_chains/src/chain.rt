@@ -1,9 +1,12 @@
-ghost use Rattle.std.specs.Prelude.{◌≡◌, ◌≢◌, ◌<◌, ◌++◌, [], ◌∷◌, All, AllPairs, IfOk, OnOk, OnErr, OnSome, IfSome, IfNone, ℕ, length, slice_index, slice_index_or, drop, ◌≤◌, ◌==◌, if◌then◌else◌, ◌↔◌, ◌^◌, ◌-◌, IfErr};
+ghost use Rattle.std.specs.Prelude.{◌≡◌, ◌≢◌, ◌<◌, [], All, IfOk, OnOk, IfSome, IfNone, ℕ, length, map, slice_index, slice_index_or, drop, ◌≤◌, ◌==◌, if◌then◌else◌, ◌↔◌, ◌^◌, ◌-◌, IfErr};
 ghost use Rattle.conley_algebra.specs.Others.{other};
 ghost use Rattle.std.specs.List.Sorted.{IsStrictlyIncreasing};
 ghost use Rattle.conley_chains.specs.Chain.{coefficient, IsChain, HasCodes, first_place};
+ghost use Rattle.conley_chains.specs.Sums.{IsChainSum, IsChainPart};
+ghost use Rattle.conley_chains.specs.Placing.{pair_of};
 ghost use Rattle.conley_chains.specs.Faults.{fault_at, IsFaultless, IsFirstFault};
 
+use crate::placing::{Placed, place_pairs, sort_by_place};
 use crate::{MatrixError, NoMemory};
 use conley_field::{Field, Scalar};
 use smallvec::SmallVec;
@@ -28,6 +31,7 @@ impl Model for Chain {
 }
 
 impl Chain {
+    /// The chain that keeps nothing. It takes no memory.
     pub fn new(alloc: Global) -> Chain
         ensures { result ≡ [] }
     {
@@ -36,7 +40,7 @@ impl Chain {
         }
     }
 
-    /// The chain with these entries.
+    /// The chain with these entries, whose places ascend and are distinct, and of which none is zero.
     pub fn from_pairs(alloc: Global, pairs: &[(u32, Scalar)]) -> Result<Chain, NoMemory>
         requires { IsChain pairs.now }
         ensures { IfOk result (λ chain. chain ≡ pairs.now) }
@@ -46,7 +50,8 @@ impl Chain {
         })
     }
 
-    /// The chain with these entries.
+    /// The chain with these entries, each a place and a code, in any order. The least entry with a fault is refused: `Range` where its code
+    /// is not below the order, then `Zero` where the code is 0, then `Repeated` where its place stood before; the number is that of the entry.
     pub fn from_entries<F: Field>(
         alloc: Global,
         field: &F,
@@ -56,25 +61,29 @@ impl Chain {
         ensures faultless { OnOk result (IsFaultless (fault_at (F.arithmetic field.now).order entries.now) (length entries.now)) }
         ensures entries { IfOk result (λ chain. (place : ℕ) → coefficient chain place ≡ coefficient entries.now place) }
         ensures codes { IfOk result (HasCodes (F.arithmetic field.now)) }
-        ensures first { IfErr result (λ error. error ≢ MatrixError.NoMemory → IsFirstFault (fault_at (F.arithmetic field.now).order entries.now) (length entries.now) error) }
+        ensures first { IfErr result (λ error. error ≢ MatrixError.NoMemory →
+            IsFirstFault (fault_at (F.arithmetic field.now).order entries.now) (length entries.now) error) }
     {
-        let mut chain = Chain::new(alloc);
-        for k in 0..entries.len() {
-            let e = entries[k];
-            if field.order() <= e.1 {
-                return Err(MatrixError::Range(k as u32));
-            }
-            if e.1 == 0 {
-                return Err(MatrixError::Zero(k as u32));
-            }
-            if chain.entry(e.0).code() != 0 {
-                return Err(MatrixError::Repeated(k as u32));
-            }
-            let mut single = Chain::new(alloc);
-            single.put(e.0, Scalar::of(e.1))?;
-            chain = chain.plus(alloc, field, field.one(), &single)?;
+        let (mut placed, fault) = place_pairs(alloc, field.order(), entries)?;
+        if let Some(k) = sort_by_place(&mut placed) {
+            return Err(MatrixError::Repeated(k));
         }
-        Ok(chain)
+        if let Some(error) = fault {
+            return Err(error);
+        }
+        Ok(Chain::from_placed(alloc, &placed)?)
+    }
+
+    /// The chain of entries of one column, which stand in order and are not zero.
+    pub(crate) fn from_placed(alloc: Global, placed: &[Placed]) -> Result<Chain, NoMemory>
+        requires { IsChain (map pair_of placed.now) }
+        ensures { IfOk result (λ chain. chain ≡ map pair_of placed.now) }
+    {
+        let mut kept = SmallVec::new(alloc);
+        for entry in placed {
+            kept.push((entry.row, Scalar::of(entry.code)))?;
+        }
+        Ok(Chain { kept })
     }
 
     /// The same chain once more.
@@ -84,7 +93,7 @@ impl Chain {
         Chain::from_pairs(alloc, self.entries())
     }
 
-    /// The places that are kept, with their scalars, ascending by place.
+    /// The places that are kept, with their scalars, ascending by place. It takes no memory.
     pub fn entries(&self) -> &[(u32, Scalar)]
         ensures entries { result.now ≡ self.now }
         ensures chain { IsChain self.now }
@@ -92,6 +101,7 @@ impl Chain {
         self.kept.as_slice()
     }
 
+    /// The scalar at a place, or zero where nothing is kept. It takes no memory.
     pub fn entry(&self, place: u32) -> Scalar
         ensures { result ≡ coefficient self.now place }
     {
@@ -104,7 +114,7 @@ impl Chain {
         }
     }
 
-    /// The entries at places other than two, numbered anew without them.
+    /// The entries at places other than `k` and `q`, numbered anew without the two.
     pub fn without(&self, alloc: Global, k: u32, q: u32) -> Result<Chain, NoMemory>
         requires { k ≢ q }
         ensures places { IfOk result (λ chain. (i : ℕ) → coefficient chain i ≡ coefficient self.now (other k q i)) }
@@ -132,7 +142,7 @@ impl Chain {
         Ok(())
     }
 
-    /// The chain plus `by` times another.
+    /// The chain plus `by` times another, in one pass over both.
     pub fn plus<F: Field>(
         &self,
         alloc: Global,
@@ -143,7 +153,7 @@ impl Chain {
         requires codes { HasCodes (F.arithmetic field.now) self.now }
         requires by_below { by < (F.arithmetic field.now).order }
         requires other_codes { HasCodes (F.arithmetic field.now) other.now }
-        ensures sum { IfOk result (λ sum. (place : ℕ) → coefficient sum place ≡ (F.arithmetic field.now).add (coefficient self.now place) ((F.arithmetic field.now).mul by (coefficient other.now place))) }
+        ensures sum { IfOk result (IsChainSum (F.arithmetic field.now) self.now by other.now) }
         ensures chain { IfOk result IsChain }
         ensures codes { IfOk result (HasCodes (F.arithmetic field.now)) }
     {
@@ -175,11 +185,11 @@ impl Chain {
         Ok(sum)
     }
 
-    /// The entries at the listed places, numbered anew.
+    /// The entries at the listed places, which ascend: the entry at the i-th of them stands at place i.
     pub fn restrict(&self, alloc: Global, places: &[u32]) -> Result<Chain, NoMemory>
         requires ascending { IsStrictlyIncreasing places.now }
         requires few { length places.now < 2 ^ 32 }
-        ensures entries { IfOk result (λ part. (i : ℕ) → i < length places.now → coefficient part i ≡ coefficient self.now (slice_index places.now i)) }
+        ensures entries { IfOk result (IsChainPart places.now self.now) }
         ensures beyond { IfOk result (λ part. (i : ℕ) → length places.now ≤ i → coefficient part i ≡ 0) }
         ensures codes { IfOk result (λ part. (n : ℕ) → All (λ e. e.1 < n) self.now → All (λ e. e.1 < n) part) }
     {

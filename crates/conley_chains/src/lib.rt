@@ -9,6 +9,9 @@ mod chain;
 mod error;
 mod laws;
 mod matrix;
+mod placing;
+#[cfg(test)]
+mod tests;
 
 pub use chain::Chain;
 pub use error::MatrixError;

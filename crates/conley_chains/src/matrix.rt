@@ -1,10 +1,13 @@
-ghost use Rattle.std.specs.Prelude.{◌≡◌, ◌≢◌, ◌<◌, ◌≤◌, ◌==◌, [], All, IfOk, OnOk, OnErr, ℕ, ◌^◌, length, slice_index, slice_index_or, if◌then◌else◌};
+ghost use Rattle.std.specs.Prelude.{◌≡◌, ◌≢◌, ◌<◌, ◌≤◌, ◌==◌, ◌-◌, [], All, AllPairs, map, IfOk, IfErr, OnOk, OnErr, ℕ, ◌^◌, length, slice_index_or};
 ghost use Rattle.std.specs.List.Sorted.{IsStrictlyIncreasing};
-ghost use Rattle.conley_algebra.specs.Entries.{product_of, image_of};
 ghost use Rattle.conley_chains.specs.Chain.{coefficient, IsChain, HasCodes};
+ghost use Rattle.conley_chains.specs.Faults.{fault_within, code_at, IsFaultless, IsFirstFault};
+ghost use Rattle.conley_chains.specs.Sums.{IsImage, IsProduct, IsMatrixSum, AddsColumn, IsMatrixPart};
+ghost use Rattle.conley_chains.specs.Placing.{placed_at, IsInOrder, AreApart, triple_of};
 ghost use Rattle.conley_chains.specs.Matrix.{Table, entry, column_count, AllCodes, KeepsRows, AreColumns, IsTable};
 
-use crate::{Chain, NoMemory};
+use crate::placing::{Placed, place_triples, sort_by_place};
+use crate::{Chain, MatrixError, NoMemory};
 use conley_field::{Field, Scalar};
 use std::alloc::Global;
 use std::marker::Model;
@@ -30,7 +33,34 @@ impl Model for Matrix {
 }
 
 impl Matrix {
-    /// The matrix with these columns.
+    /// The matrix of this size with these entries, each a row, a column and a code. The least entry with a fault is refused: `Range` where
+    /// its row, its column or its code is out of range, then `Zero` where the code is 0, then `Repeated` where its place stood before.
+    pub fn from_entries<F: Field>(
+        alloc: Global,
+        field: &F,
+        rows: usize,
+        columns: usize,
+        entries: &[(u32, u32, u8)],
+    ) -> Result<Matrix, MatrixError>
+        requires few { length entries.now < 2 ^ 32 - 1 }
+        ensures faultless { OnOk result (IsFaultless (fault_within rows columns (F.arithmetic field.now).order entries.now) (length entries.now)) }
+        ensures entries { IfOk result (λ matrix. (row column : ℕ) → entry matrix row column ≡ code_at entries.now row column) }
+        ensures table { IfOk result (IsTable (F.arithmetic field.now) rows columns) }
+        ensures first { IfErr result (λ error. error ≢ MatrixError.NoMemory →
+            IsFirstFault (fault_within rows columns (F.arithmetic field.now).order entries.now) (length entries.now) error) }
+    {
+        let (mut placed, fault) = place_triples(alloc, rows, columns, field.order(), entries)?;
+        if let Some(k) = sort_by_place(&mut placed) {
+            return Err(MatrixError::Repeated(k));
+        }
+        if let Some(error) = fault {
+            return Err(error);
+        }
+        let kept = columns_of(alloc, columns, &placed)?;
+        Ok(Matrix::from_columns(rows, kept))
+    }
+
+    /// The matrix with these columns, whose places are below the number of rows. It takes no memory.
     pub fn from_columns(rows: usize, columns: Vec<Chain>) -> Matrix
         requires { KeepsRows rows columns.items }
         ensures { result ≡ record { rows = rows; columns = columns.items } }
@@ -42,6 +72,7 @@ impl Matrix {
         }
     }
 
+    /// The number of rows. It takes no memory.
     pub fn rows(&self) -> usize
         ensures rows { result ≡ self.now.rows }
         ensures kept { AreColumns self.now.rows self.now.columns }
@@ -49,12 +80,14 @@ impl Matrix {
         self.row_count
     }
 
+    /// The number of columns. It takes no memory.
     pub fn columns(&self) -> usize
         ensures { result ≡ column_count self.now }
     {
         self.kept.len()
     }
 
+    /// A column, as the chain of its rows. It takes no memory.
     pub fn column(&self, column: u32) -> &Chain
         requires { column < column_count self.now }
         ensures column { result.now ≡ slice_index_or self.now.columns column [] }
@@ -63,6 +96,7 @@ impl Matrix {
         &self.kept[column as usize]
     }
 
+    /// The scalar in a row and a column, or zero where nothing is kept. It takes no memory.
     pub fn entry(&self, row: u32, column: u32) -> Scalar
         requires { column < column_count self.now }
         ensures { result ≡ entry self.now row column }
@@ -70,7 +104,7 @@ impl Matrix {
         self.column(column).entry(row)
     }
 
-    /// Column `target` gains `by` times column `source`.
+    /// Column `target` gains `by` times column `source`; all other columns and the size stay. After `NoMemory` the matrix is as before.
     pub fn add_scaled<F: Field>(
         &mut self,
         field: &F,
@@ -82,7 +116,7 @@ impl Matrix {
         requires source_within { source < column_count self.old }
         requires codes { AllCodes (F.arithmetic field.now) self.old }
         requires by_below { by < (F.arithmetic field.now).order }
-        ensures entries { OnOk result ((row column : ℕ) → entry self.new row column ≡ (if column == target then (F.arithmetic field.now).add (entry self.old row target) ((F.arithmetic field.now).mul by (entry self.old row source)) else entry self.old row column)) }
+        ensures entries { OnOk result (AddsColumn (F.arithmetic field.now) self.old target source by self.new) }
         ensures rows { self.new.rows ≡ self.old.rows }
         ensures columns { column_count self.new ≡ column_count self.old }
         ensures codes { AllCodes (F.arithmetic field.now) self.new }
@@ -96,7 +130,7 @@ impl Matrix {
         Ok(())
     }
 
-    /// The image of a chain.
+    /// The image of a chain on the columns: at each row, the sum over all columns of the entry times the chain's scalar.
     pub fn apply<F: Field>(
         &self,
         alloc: Global,
@@ -106,7 +140,7 @@ impl Matrix {
         requires fits { (place : ℕ) → column_count self.now ≤ place → coefficient chain.now place ≡ 0 }
         requires codes { AllCodes (F.arithmetic field.now) self.now }
         requires chain_codes { HasCodes (F.arithmetic field.now) chain.now }
-        ensures image { IfOk result (λ image. (row : ℕ) → coefficient image row ≡ image_of (F.arithmetic field.now) (column_count self.now) (entry self.now) (coefficient chain.now) row) }
+        ensures image { IfOk result (IsImage (F.arithmetic field.now) self.now chain.now) }
         ensures codes { IfOk result (HasCodes (F.arithmetic field.now)) }
     {
         self.image(alloc, field, chain.entries())
@@ -124,7 +158,7 @@ impl Matrix {
         requires fits { All (λ e. e.0 < column_count self.now) entries.now }
         requires codes { AllCodes (F.arithmetic field.now) self.now }
         requires chain_codes { HasCodes (F.arithmetic field.now) entries.now }
-        ensures image { IfOk result (λ image. (row : ℕ) → coefficient image row ≡ image_of (F.arithmetic field.now) (column_count self.now) (entry self.now) (coefficient entries.now) row) }
+        ensures image { IfOk result (IsImage (F.arithmetic field.now) self.now entries.now) }
         ensures codes { IfOk result (HasCodes (F.arithmetic field.now)) }
     {
         if entries.len() <= FEW {
@@ -148,7 +182,7 @@ impl Matrix {
         requires fits { All (λ e. e.0 < column_count self.now) entries.now }
         requires codes { AllCodes (F.arithmetic field.now) self.now }
         requires chain_codes { HasCodes (F.arithmetic field.now) entries.now }
-        ensures image { IfOk result (λ image. (row : ℕ) → coefficient image row ≡ image_of (F.arithmetic field.now) (column_count self.now) (entry self.now) (coefficient entries.now) row) }
+        ensures image { IfOk result (IsImage (F.arithmetic field.now) self.now entries.now) }
         ensures codes { IfOk result (HasCodes (F.arithmetic field.now)) }
     {
         let mut image = Chain::new(alloc);
@@ -158,7 +192,8 @@ impl Matrix {
         Ok(image)
     }
 
-    /// The matrix times another.
+    /// The matrix times another, which has as many rows as this one has columns. Entry (r, c) is the sum over all k of entry (r, k) of this
+    /// matrix times entry (k, c) of the other.
     pub fn product<F: Field>(
         &self,
         alloc: Global,
@@ -168,7 +203,7 @@ impl Matrix {
         requires fits { right.now.rows ≡ column_count self.now }
         requires codes { AllCodes (F.arithmetic field.now) self.now }
         requires right_codes { AllCodes (F.arithmetic field.now) right.now }
-        ensures product { IfOk result (λ product. (row column : ℕ) → entry product row column ≡ product_of (F.arithmetic field.now) (column_count self.now) (entry self.now) (entry right.now) row column) }
+        ensures product { IfOk result (IsProduct (F.arithmetic field.now) self.now right.now) }
         ensures table { IfOk result (IsTable (F.arithmetic field.now) self.now.rows (column_count right.now)) }
     {
         let rows = self.row_count;
@@ -193,7 +228,7 @@ impl Matrix {
         })
     }
 
-    /// The matrix plus `by` times another.
+    /// The matrix plus `by` times another of the same size.
     pub fn plus<F: Field>(
         &self,
         alloc: Global,
@@ -206,7 +241,7 @@ impl Matrix {
         requires codes { AllCodes (F.arithmetic field.now) self.now }
         requires other_codes { AllCodes (F.arithmetic field.now) other.now }
         requires by_below { by < (F.arithmetic field.now).order }
-        ensures sum { IfOk result (λ sum. (row column : ℕ) → entry sum row column ≡ (F.arithmetic field.now).add (entry self.now row column) ((F.arithmetic field.now).mul by (entry other.now row column))) }
+        ensures sum { IfOk result (IsMatrixSum (F.arithmetic field.now) self.now by other.now) }
         ensures table { IfOk result (IsTable (F.arithmetic field.now) self.now.rows (column_count self.now)) }
     {
         let rows = self.row_count;
@@ -218,12 +253,12 @@ impl Matrix {
         Ok(Matrix::from_columns(rows, columns))
     }
 
-    /// The listed rows and columns, numbered anew.
+    /// The listed rows and columns, numbered anew: entry (i, j) is that of the i-th listed row and the j-th listed column.
     pub fn restrict(&self, alloc: Global, rows: &[u32], columns: &[u32]) -> Result<Matrix, NoMemory>
         requires rows_ascend { IsStrictlyIncreasing rows.now }
         requires columns_within { All (λ c. c < column_count self.now) columns.now }
         requires few { length rows.now < 2 ^ 32 }
-        ensures entries { IfOk result (λ part. (i j : ℕ) → i < length rows.now → j < length columns.now → entry part i j ≡ entry self.now (slice_index rows.now i) (slice_index columns.now j)) }
+        ensures entries { IfOk result (IsMatrixPart rows.now columns.now self.now) }
         ensures rows { IfOk result (λ part. part.rows ≡ length rows.now) }
         ensures columns { IfOk result (λ part. column_count part ≡ length columns.now) }
         ensures codes { IfOk result (λ part. (n : ℕ) → All (λ c. All (λ e. e.1 < n) c) self.now.columns → All (λ c. All (λ e. e.1 < n) c) part.columns) }
@@ -243,4 +278,38 @@ fn all_chains(columns: &[Chain])
     for column in columns {
         column.entries();
     }
+}
+
+/// The first columns of entries that stand in order at places that differ.
+fn columns_of(alloc: Global, count: usize, placed: &[Placed]) -> Result<Vec<Chain>, NoMemory>
+    requires in_order { AllPairs IsInOrder placed.now }
+    requires apart { AreApart placed.now (length placed.now) }
+    requires not_zero { All (λ p. p.code ≢ 0) placed.now }
+    ensures count { IfOk result (λ columns. length columns.items ≡ count) }
+    ensures codes { IfOk result (λ columns. (n : ℕ) → All (λ p. p.code < n) placed.now → All (λ es. All (λ e. e.1 < n) es) columns.items) }
+    ensures entries { IfOk result (λ columns. (row k : ℕ) → k < count → coefficient (slice_index_or columns.items k []) row ≡ code_at (map triple_of placed.now) row k) }
+{
+    let mut columns = Vec::with_capacity(alloc, count)?;
+    let mut start = 0;
+    for column in 0..count {
+        let end = end_of_run(placed, start, column);
+        columns.push(Chain::from_placed(alloc, &placed[start..end])?)?;
+        start = end;
+    }
+    Ok(columns)
+}
+
+/// Where the entries of a column end that begin at an index.
+fn end_of_run(placed: &[Placed], start: usize, column: usize) -> usize
+    requires { start ≤ length placed.now }
+    ensures from { start ≤ result }
+    ensures within { result ≤ length placed.now }
+    ensures own { (k : ℕ) → start ≤ k → k < result → (placed_at placed.now k).column ≡ column }
+    ensures other { result < length placed.now → (placed_at placed.now result).column ≢ column }
+{
+    let mut end = start;
+    while end < placed.len() && placed[end].column as usize == column {
+        end += 1;
+    }
+    end
 }

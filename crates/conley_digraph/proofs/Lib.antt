@@ -1,2 +1,3 @@
 pub mod TurningLemmas
 pub mod NumberingLemmas
+pub mod RowLemmas

@@ -1,3 +1,5 @@
+pub mod Heads
 pub mod Classes
 pub mod Numbering
 pub mod Turning
+pub mod Rows

@@ -1,6 +1,6 @@
 //! The faces of cells.
 
-ghost use Rattle.std.specs.Prelude.{◌≡◌, ◌<◌, ◌≤◌, ◌^◌, ◌↔◌, ℕ, [], OnOk, IfOk, IfSome, IfNone, IsNone, IsTrue, true, false, Contains, length, slice_index_or};
+ghost use Rattle.std.specs.Prelude.{◌≡◌, ◌+◌, ◌<◌, ◌≤◌, ◌^◌, ◌↔◌, ℕ, [], OnOk, IfOk, IfSome, IfNone, IsNone, IsTrue, true, false, Contains, length, slice_index_or};
 ghost use Rattle.std.specs.List.Sorted.{IsStrictlyIncreasing};
 ghost use Rattle.conley_walk.specs.Walk.{Reaches};
 ghost use Rattle.conley_walk.specs.Lists.{items_of, ListedStep, IsDigraph, entries_of, IsFirstOutOfRange, IsOrderedCopy};
@@ -37,8 +37,7 @@ impl Faces {
     /// The faces over lists of the cells directly under each cell, in any order, also with repeats.
     /// `Range` comes first, then `Cycle`.
     pub fn new(alloc: Global, lists: &[Vec<u32>]) -> Result<Faces, FacesError>
-        requires count { length lists.now < 2 ^ 32 }
-        requires entries { length (entries_of (items_of lists.now)) < 2 ^ 32 }
+        requires { length lists.now + length (entries_of (items_of lists.now)) < 2 ^ 32 }
         ensures range { (k : ℕ) → result ≡ Err (FacesError.Range k) → IsFirstOutOfRange (items_of lists.now) k }
         ensures cycle { (x : ℕ) → result ≡ Err (FacesError.Cycle x) → IsDigraph (items_of lists.now) × IsLeastBelowItself (items_of lists.now) x }
         ensures ok { IfOk result (λ faces. IsDigraph (items_of lists.now) × IsOrderedCopy faces (items_of lists.now)) }

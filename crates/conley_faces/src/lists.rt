@@ -1,6 +1,6 @@
 //! Numbers gathered from several lists, and what two ascending lists have in common or not.
 
-ghost use Rattle.std.specs.Prelude.{◌≡◌, ◌<◌, ◌≤◌, ◌↔◌, ◌⊎◌, All, ℕ, OnOk, IfOk, IfSome, IfNone, Contains, length};
+ghost use Rattle.std.specs.Prelude.{◌≡◌, ◌<◌, ◌≤◌, ◌↔◌, ◌⊎◌, All, ℕ, OnOk, IfOk, IfSome, IfNone, IsTrue, Contains, length};
 ghost use Rattle.std.specs.List.Sorted.{IsStrictlyIncreasing};
 ghost use Rattle.conley_walk.specs.Lists.{items_of, ListedStep};
 ghost use Rattle.conley_faces.specs.Closures.{IsInListOf, IsPart, AreMarked, IsUnmarked};
@@ -109,13 +109,35 @@ pub fn left_out(alloc: Global, list: &[u32], without: &[u32]) -> Result<Vec<u32>
     Ok(part)
 }
 
+/// Whether each number of the one ascending list is less than each of the other one, by their ends.
+fn lies_below(list: &[u32], other: &[u32]) -> bool
+    requires list { IsStrictlyIncreasing list.now }
+    requires other { IsStrictlyIncreasing other.now }
+    ensures { IsTrue result ↔ ((y z : ℕ) → Contains list.now y → Contains other.now z → y < z) }
+{
+    if list.is_empty() {
+        return true;
+    }
+    if other.is_empty() {
+        return true;
+    }
+    list[list.len() - 1] < other[0]
+}
+
 /// The first number of the one ascending list that the other one has, by a binary search for each number of the first.
+/// Lists of which one lies below the other have none.
 pub fn first_common(list: &[u32], other: &[u32]) -> Option<u32>
     requires list { IsStrictlyIncreasing list.now }
     requires other { IsStrictlyIncreasing other.now }
     ensures found { IfSome result (λ z. Contains list.now z × Contains other.now z × ((w : ℕ) → Contains list.now w → Contains other.now w → z ≤ w)) }
     ensures none { IfNone result ((z : ℕ) → Contains list.now z → ¬ Contains other.now z) }
 {
+    if lies_below(list, other) {
+        return None;
+    }
+    if lies_below(other, list) {
+        return None;
+    }
     for z in list {
         if stands_in(other, *z) {
             return Some(*z);

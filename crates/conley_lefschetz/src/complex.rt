@@ -1,6 +1,6 @@
 //! Complexes of cells.
 
-ghost use Rattle.std.specs.Prelude.{◌≡◌, ◌≢◌, ◌<◌, ◌^◌, ℕ, [], All, IfOk, OnOk, IfSome, IfNone, IsErrOf, length, slice_index_or};
+ghost use Rattle.std.specs.Prelude.{◌≡◌, ◌≢◌, ◌+◌, ◌<◌, ◌^◌, ℕ, [], All, IfOk, OnOk, IfSome, IfNone, IsErrOf, length, slice_index_or};
 ghost use Rattle.conley_lefschetz.specs.Listing.{bytes_of, dim_in};
 ghost use Rattle.conley_lefschetz.specs.Fault.{IsFirstFault};
 ghost use Rattle.conley_lefschetz.specs.Complex.{Layout, IsLayout, IsComplexOf};
@@ -40,13 +40,12 @@ impl<F: Field> Model for Complex<F> {
     ghost invariant = { λ c. IsLayout (F.arithmetic c.field) (record { labels = bytes_of c.names.keys; boundary = c.matrix; dims = c.dims.items; faces = c.faces; levels = c.levels }) };
 }
 
-/// Whether lists of these lengths can be numbered. No memory holds longer ones.
+/// Whether lists of these lengths can be numbered together. No memory holds longer ones.
 fn can_number(cells: usize, incidences: usize) -> Result<(), ComplexError>
-    ensures cells { OnOk result (cells < 2 ^ 32) }
-    ensures incidences { OnOk result (incidences < 2 ^ 32) }
+    ensures few { OnOk result (cells + incidences < 2 ^ 32) }
     ensures err { (error : _) → IsErrOf result error → error ≡ ComplexError.NoMemory }
 {
-    if cells > u32::MAX as usize || incidences > u32::MAX as usize {
+    if cells > u32::MAX as usize || incidences > u32::MAX as usize - cells {
         return Err(ComplexError::NoMemory);
     }
     Ok(())

@@ -1,6 +1,6 @@
 //! The first incidence with a fault, and the lists of direct faces.
 
-ghost use Rattle.std.specs.Prelude.{◌≡◌, ◌<◌, ◌≤◌, ◌↔◌, ◌^◌, ℕ, None, [], OnOk, IfOk, length, map};
+ghost use Rattle.std.specs.Prelude.{◌≡◌, ◌+◌, ◌<◌, ◌≤◌, ◌↔◌, ◌^◌, ℕ, None, [], OnOk, IfOk, length, map};
 ghost use Rattle.conley_walk.specs.Lists.{items_of, entries_of, ListedStep};
 ghost use Rattle.conley_lefschetz.specs.Listing.{triple_at, incidence_of};
 ghost use Rattle.conley_lefschetz.specs.Fault.{IsFault, StoodBefore};
@@ -117,8 +117,7 @@ pub(crate) fn faces_of(
     dims: &[u8],
     incidences: &[(u32, u32, Scalar)],
 ) -> Result<Faces, AllocError>
-    requires few { length dims.now < 2 ^ 32 }
-    requires few_incidences { length incidences.now < 2 ^ 32 }
+    requires few { length dims.now + length incidences.now < 2 ^ 32 }
     requires faultless { (k why : ℕ) → ¬ IsFault dims.now incidences.now k why }
     ensures { IfOk result (AreFacesOf incidences.now (length dims.now)) }
 {

@@ -54,10 +54,14 @@ module _ (copy lists : List (List ℕ)) (ordered : IsOrderedCopy copy lists) whe
   pub digraph_same : IsDigraph lists → IsDigraph copy
   digraph_same ok x y s = subst (λ n. y < n) (sym ordered.count) (ok x y ((ordered.same x y).0 s))
 
+-- the entries with one list more
+pub entries_push : (rows : List (Vec ℕ Global)) (row : Vec ℕ Global) → entries_of (items_of (rows ++ row ∷ [])) ≡ entries_of (items_of rows) ++ row.items
+entries_push rows row = rw (entries_append rows (row ∷ [])) (ap (λ (q : List ℕ). entries_of (items_of rows) ++ q) (append-nil row.items))
+
 -- one list more in order
 pub ordered_more : (copies lists : List (Vec ℕ Global)) (copy list : Vec ℕ Global) → IsOrderedCopy (items_of copies) (items_of lists) → IsStrictlyIncreasing copy.items → ((y : ℕ) → Contains copy.items y ↔ Contains list.items y) →
-    IsOrderedCopy (items_of (copies ++ copy ∷ [])) (items_of (lists ++ list ∷ []))
-ordered_more copies lists copy list so_far rising has = record {
+    length copy.items ≤ length list.items → IsOrderedCopy (items_of (copies ++ copy ∷ [])) (items_of (lists ++ list ∷ []))
+ordered_more copies lists copy list so_far rising has short = record {
   count = simp (map-append, length-append) (omega (arith, so_far.count));
   ascending = λ x. elim (cases_order x n) [
     | inl e ↦ rw (row_at_end copies copy x n refl e) rising
@@ -76,6 +80,7 @@ ordered_more copies lists copy list so_far rising has = record {
           rw (none, none') ((λ h. h), (λ h. h))
     ]
   ];
+  entries = rw (entries_push copies copy, entries_push lists list) (simp length-append (omega (arith, so_far.entries, short)));
 }
   where
     n : ℕ
@@ -108,7 +113,13 @@ module _ (lists : List (List ℕ)) (x y : ℕ) (lt : x < length lists) where
       )
 
   pub puts_under : PutsUnder lists (set lists x (get_or lists x [] ++ y ∷ [])) x y
-  puts_under = record { count = length-set lists x (get_or lists x [] ++ y ∷ []); entries = puts_entries; steps = puts_steps }
+  puts_under = record {
+    count = length-set lists x (get_or lists x [] ++ y ∷ []);
+    put = get_or-set_same lists x (get_or lists x [] ++ y ∷ []) [] lt;
+    kept = λ k ne. get_or-set_other lists x k (get_or lists x [] ++ y ∷ []) [] ne;
+    entries = puts_entries;
+    steps = puts_steps;
+  }
 
 -- the same where the lists are vectors
 pub puts_under_rows : (lists : List (Vec ℕ Global)) (x y : ℕ) (old new : Vec ℕ Global) → x < length (items_of lists) → get_or (items_of lists) x [] ≡ old.items → new.items ≡ old.items ++ y ∷ [] → PutsUnder (items_of lists) (items_of (set lists x new)) x y

@@ -39,6 +39,7 @@ pub fn first_out_of_range(lists: &[Vec<u32>]) -> Option<u32>
 pub fn ordered(alloc: Global, list: &[u32]) -> Result<Vec<u32>, AllocError>
     ensures ascending { IfOk result (λ copy. IsStrictlyIncreasing copy.items) }
     ensures same { IfOk result (λ copy. (y : ℕ) → Contains copy.items y ↔ Contains list.now y) }
+    ensures no_longer { IfOk result (λ copy. length copy.items ≤ length list.now) }
 {
     let mut copy = Vec::from_slice(alloc, list)?;
     copy.sort_unstable();

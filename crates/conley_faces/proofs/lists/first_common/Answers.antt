@@ -4,6 +4,12 @@ use Rattle.std.proofs.lemmas.List.Elements.{Contains-get_or}
 use Rattle.conley_walk.proofs.ListLemmas.{place_of, at_least}
 use Rattle.conley_faces.proofs.lists.first_common.Goals as goal
 
+pub returns-then-lies_below-clause-none : goal.returns-then-lies_below-clause-none
+returns-then-lies_below-clause-none c = λ z h d. let less = c.if-lies_below.ensures.0 refl z z h d in omega arith
+
+pub returns-then-lies_below-2-clause-none : goal.returns-then-lies_below-2-clause-none
+returns-then-lies_below-2-clause-none c = λ z h d. let less = c.if-lies_below-2.ensures.0 refl z z d h in omega arith
+
 pub returns-then-stands_in-clause-found : goal.returns-then-stands_in-clause-found
 returns-then-stands_in-clause-found c =
     let list = c.args.list.now in

@@ -9,12 +9,16 @@ use Rattle.conley_lefschetz.proofs.incidences.faces_of.Goals as goal
 pub face_lists-requires : goal.face_lists-requires
 face_lists-requires c = λ k lt. (ends c.args.dims.now c.args.incidences.now c.requires.faultless k lt).0
 
-pub new-requires-clause-count : goal.new-requires-clause-count
-new-requires-clause-count c = omega (arith, ap length c.deref.ensures.value, c.in_ok-lists.ensures.count, c.requires.few)
-
-pub new-requires-clause-entries : goal.new-requires-clause-entries
-new-requires-clause-entries c =
-    omega (arith, ap (λ l. length (entries_of (items_of l))) c.deref.ensures.value, c.in_ok-lists.ensures.entries, c.requires.few_incidences)
+pub new-requires : goal.new-requires
+new-requires c =
+    omega (
+      arith,
+      ap length c.deref.ensures.value,
+      ap (λ l. length (entries_of (items_of l))) c.deref.ensures.value,
+      c.in_ok-lists.ensures.count,
+      c.in_ok-lists.ensures.entries,
+      c.requires.few,
+    )
 
 pub returns-in-Ok : goal.returns-in-Ok
 returns-in-Ok c =

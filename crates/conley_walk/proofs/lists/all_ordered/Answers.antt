@@ -9,4 +9,5 @@ loop-list-preserved c =
     let more : take (c.loop-list.list-index + 1) c.args.lists.now ≡ take c.loop-list.list-index c.args.lists.now ++ c.list-item.result ∷ [] =
     take_more c.args.lists.now c.loop-list.list-index c.list-item.result c.loop-list-test.true ∙ ap (λ (r : Vec ℕ Global). take c.loop-list.list-index c.args.lists.now ++ r ∷ []) (sym is) in
     let same = rw c.deref.ensures.value at c.in_ok-ordered.ensures.same in
-    rw (more, c.in_ok-push.ensures.items) (ordered_more _ _ _ _ c.loop-list.invariant c.in_ok-ordered.ensures.ascending same)
+    let short = rw c.deref.ensures.value at c.in_ok-ordered.ensures.no_longer in
+    rw (more, c.in_ok-push.ensures.items) (ordered_more _ _ _ _ c.loop-list.invariant c.in_ok-ordered.ensures.ascending same short)

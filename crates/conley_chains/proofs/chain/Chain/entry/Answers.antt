@@ -1,4 +1,4 @@
-use Rattle.std.proofs.Common.{◌≡◌, ◌∙◌, sym, ap, ℕ, List, get_or, arith}
+use Rattle.std.proofs.Common.{◌≡◌, ◌∙◌, sym, ap, ℕ, List, arith}
 use Rattle.std.proofs.lemmas.List.{get_or_default}
 use Rattle.conley_chains.specs.Chain.{coefficient}
 use Rattle.conley_chains.proofs.ChainLemmas.{coefficient-at, coefficient-between}

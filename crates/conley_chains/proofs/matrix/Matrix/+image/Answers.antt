@@ -1,4 +1,4 @@
-use Rattle.std.proofs.Common.{rules, arith, length-take, length-drop, ℕ, length, ◌/◌, ◌-◌, ◌<◌, ◌≡◌, ◌∙◌, sym, ap, List, take, drop}
+use Rattle.std.proofs.Common.{arith, length-take, length-drop, ℕ, length, ◌/◌, ◌-◌, ◌<◌, ◌≡◌, ◌∙◌, ap, List, take, drop}
 use Rattle.std.proofs.lemmas.List.{take_all}
 use Rattle.std.proofs.lemmas.List.Elements.{All-take, All-drop}
 use Rattle.conley_algebra.specs.Entries.{image_of}
@@ -11,8 +11,7 @@ use Rattle.conley_chains.proofs.matrix.Matrix.+image.Goals as goal
 pub image-requires : goal.image-requires
 image-requires g t c κs within =
     let es = c.args.entries.now in
-    let half = length c.args.entries.now / 2 in
-    (
+    let half = length c.args.entries.now / 2 in (
       omega (arith, length-take half es),
       (within, (IsChain-take half es c.requires.chain, (All-take (λ (e : ℕ × ℕ). e.0 < column_count c.args.self.now) half es c.requires.fits, (c.requires.codes, All-take (λ (e : ℕ × ℕ). e.1 < (g.F.Field.arithmetic c.args.field.now).order) half es c.requires.chain_codes)))),
     )
@@ -21,12 +20,18 @@ pub image-requires-2 : goal.image-requires-2
 image-requires-2 g t c κs within =
     let es = c.args.entries.now in
     let half = length c.args.entries.now / 2 in
-    let rest = drop half es in
-    (
+    let rest = drop half es in (
       omega (arith, length-take (length es - half) rest, length-drop half es),
-      (within, (IsChain-take (length es - half) rest (IsChain-drop half es c.requires.chain),
-      (All-take (λ (e : ℕ × ℕ). e.0 < column_count c.args.self.now) (length es - half) rest (All-drop (λ (e : ℕ × ℕ). e.0 < column_count c.args.self.now) half es c.requires.fits),
-      (c.requires.codes, All-take (λ (e : ℕ × ℕ). e.1 < (g.F.Field.arithmetic c.args.field.now).order) (length es - half) rest (All-drop (λ (e : ℕ × ℕ). e.1 < (g.F.Field.arithmetic c.args.field.now).order) half es c.requires.chain_codes))))),
+      (
+        within,
+        (
+          IsChain-take (length es - half) rest (IsChain-drop half es c.requires.chain),
+          (
+            All-take (λ (e : ℕ × ℕ). e.0 < column_count c.args.self.now) (length es - half) rest (All-drop (λ (e : ℕ × ℕ). e.0 < column_count c.args.self.now) half es c.requires.fits),
+            (c.requires.codes, All-take (λ (e : ℕ × ℕ). e.1 < (g.F.Field.arithmetic c.args.field.now).order) (length es - half) rest (All-drop (λ (e : ℕ × ℕ). e.1 < (g.F.Field.arithmetic c.args.field.now).order) half es c.requires.chain_codes)),
+          ),
+        ),
+      ),
     )
 
 pub returns-clause-image : goal.returns-clause-image

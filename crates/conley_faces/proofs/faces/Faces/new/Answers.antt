@@ -25,7 +25,7 @@ invariant_of-result c =
     let no_cycle = rw c.deref-2.ensures.value at (c.in_ok-cell.ensures.none (ap Ok c.in_default-2.is)) in
     record {
       order = record {
-        few = omega (arith, c.in_ok-direct.ensures.count, length-items_of c.args.lists.now, c.requires.count);
+        few = omega (arith, c.in_ok-direct.ensures.count, c.in_ok-direct.ensures.entries, length-items_of c.args.lists.now, c.requires);
         digraph = digraph;
         ascending = c.in_ok-direct.ensures.ascending;
         no_cycle = no_cycle;

@@ -69,7 +69,7 @@ invariant_of-result g c =
     let texts = c.in_ok-names.ensures.labels in
     record {
       complex = is_complex dims is clear c.in_ok-faces.faces are m (c.in_ok-matrix.ensures.rows ∙ are.count) (c.in_ok-matrix.ensures.columns ∙ are.count)
-          (λ x lt. c.in_ok-matrix.ensures.entries x (omega (arith, lt, are.count))) F (omega (arith, c.in_ok-can_number.ensures.cells, c.len.ensures, c.requires.count, c.args.labels.ok.0)) c.requires.codes none;
+          (λ x lt. c.in_ok-matrix.ensures.entries x (omega (arith, lt, are.count))) F (omega (arith, c.in_ok-can_number.ensures.few, c.len.ensures, c.requires.count, c.args.labels.ok.0)) c.requires.codes none;
       labels_count = ap length texts ∙ length-bytes_of c.args.labels.items ∙ c.requires.count;
       distinct = subst (λ ls. (i j : ℕ) → IsDuplicate ls i j → ⊥) (sym texts) c.in_ok-names.ensures.distinct;
       levels = rw (← c.deref-3.ensures.value) c.levels_of-levels.ensures;

@@ -1,0 +1,10 @@
+pub mod File
+pub mod Meaning
+pub mod Listing
+pub mod Refusals
+pub mod Places
+pub mod ListingMeaning
+pub mod Problem
+pub mod Errors
+pub mod Marks
+pub mod ProblemMeaning

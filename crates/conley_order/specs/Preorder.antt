@@ -1,0 +1,13 @@
+-- Preorders of the numbers below a count, as tests.
+--     IsPreorder n below        the test is reflexive and transitive on the numbers below n
+--     IsBelow n below a b       a is at or below b, for any two numbers: those that aren't below n are only at themselves
+-- The wording is this project's own.
+use Rattle.std.specs.Prelude.{◌≡◌, ◌⊎◌, ◌<◌, ℕ, Bool, true}
+
+pub record IsPreorder (n : ℕ) (below : ℕ → ℕ → Bool) : Type 0 where
+  pub reflexive : (a : ℕ) → a < n → below a a ≡ true
+  pub transitive : (a b c : ℕ) → a < n → b < n → c < n → below a b ≡ true → below b c ≡ true → below a c ≡ true
+
+-- equal, or both below the count with a true test
+abbrev pub IsBelow : ℕ → (ℕ → ℕ → Bool) → ℕ → ℕ → Type 0
+IsBelow n below a b = (a ≡ b) ⊎ ((a < n) × (b < n) × (below a b ≡ true))

@@ -1,0 +1,16 @@
+//! Preorders of cells, and reach between classes of cells as rows of bits.
+//! A `Grading` is seen as a count and a test: the cells are the numbers below the count, and the test tells which are at or below which.
+//! `ReachRows` is seen as the class of each cell and a row of words for each class. Open specs/Preorder.antt first, then specs/ClassRows.antt.
+//! Nothing is searched here: the rows are handed in.
+#![tactic(auto)]
+
+mod grading;
+mod reach_rows;
+mod words;
+
+pub use grading::{Grading, same};
+pub use reach_rows::ReachRows;
+pub use words::words_of;
+
+#[cfg(test)]
+mod tests;

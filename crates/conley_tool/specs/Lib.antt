@@ -1,0 +1,8 @@
+pub mod Words
+pub mod Recurrence
+pub mod Steps
+pub mod Texts
+pub mod Members
+pub mod Line
+pub mod Headline
+pub mod Outcomes

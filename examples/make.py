@@ -1,0 +1,202 @@
+#!/usr/bin/env python3
+"""Makes the problem files of the sampled flows.
+
+usage: make.py FOLDER
+
+A planar vector field is sampled on a square grid. Each sample says which cells the flow leads through together.
+The field of the problem is the finest partition of the grid's cells into locally closed parts that keeps
+those cells together. For each flow the file FOLDER/NAME/problem.json is written.
+
+A cell of the grid is named by doubled coordinates (a, b): even for a point, odd for an interval between two.
+"""
+import json
+import math
+import os
+import sys
+
+
+# ---- the flows: the vector at the point (x, y)
+
+def limit_cycle(x, y):
+    """A repelling point at 0 and an attracting cycle of radius 1."""
+    g = 2 * (1 - x * x - y * y)
+    return -y / 2 + x * g, x / 2 + y * g
+
+
+def double_well(x, y):
+    """A saddle at 0 and attracting points at (-1, 0) and (1, 0)."""
+    return x - x * x * x, -y
+
+
+def three_cycles(x, y):
+    """A repelling point at 0 and cycles of radius 1, 2 and 3: attracting, repelling, attracting."""
+    r = math.sqrt(x * x + y * y)
+    g = 2 * (1 - r) * (2 - r) * (3 - r)
+    return -y / 4 + x * g, x / 4 + y * g
+
+
+# name, flow, squares along each side, least and greatest coordinate.
+# The square is a little off the centre, so that no sample falls on a zero of the field.
+FLOWS = [
+    ("limit-cycle", limit_cycle, 15, -2.03, 2.01),
+    ("double-well", double_well, 11, -2.03, 2.01),
+    ("three-cycles", three_cycles, 40, -4.03, 4.01),
+]
+
+# How many samples are taken along an edge.
+SAMPLES = 5
+
+
+# ---- the grid
+
+def dimension(cell):
+    return cell[0] % 2 + cell[1] % 2
+
+
+def cells_of_grid(n):
+    """The cells of the grid of n by n squares, by dimension, then by coordinates."""
+    side = range(2 * n + 1)
+    return sorted(((a, b) for a in side for b in side), key=lambda cell: (dimension(cell), cell))
+
+
+def label(cell):
+    """For each axis the lower end, with a + where the cell is an interval there."""
+    return ",".join(f"{c // 2}+" if c % 2 else f"{c // 2}" for c in cell)
+
+
+def moved(cell, axis, by):
+    return (cell[0] + by, cell[1]) if axis == 0 else (cell[0], cell[1] + by)
+
+
+def boundary(cell):
+    """The faces of one dimension less with their signs: at the k-th interval the upper end has (-1)^k, the lower end the other sign."""
+    found, sign = [], 1
+    for axis in (0, 1):
+        if cell[axis] % 2:
+            found += [(moved(cell, axis, 1), sign), (moved(cell, axis, -1), -sign)]
+            sign = -sign
+    return found
+
+
+def faces(cell):
+    """All faces, the cell included."""
+    ends = [[c - 1, c, c + 1] if c % 2 else [c] for c in cell]
+    return [(a, b) for a in ends[0] for b in ends[1]]
+
+
+# ---- from samples to lists of cells that stay together
+
+def sign(number):
+    return (number > 0) - (number < 0)
+
+
+def lists_of_samples(flow, n, low, high):
+    """Each vertex with the cell that its vector points into; each edge with the squares into which the flow crosses it."""
+    step = (high - low) / n / 2
+
+    def at(a, b):
+        return flow(low + a * step, low + b * step)
+
+    def is_inside(cell):
+        return 0 <= min(cell) and max(cell) <= 2 * n
+
+    found = []
+    side = range(2 * n + 1)
+    for cell in ((a, b) for a in side for b in side):
+        if dimension(cell) == 0:
+            p, q = at(*cell)
+            into = (cell[0] + sign(p), cell[1] + sign(q))
+            if into != cell and is_inside(into):
+                found.append([cell, into])
+        elif dimension(cell) == 1:
+            # the axis along the edge, and the one across it
+            along, across = (0, 1) if cell[0] % 2 else (1, 0)
+            places = [-1 + 2 * (i + 0.5) / SAMPLES for i in range(SAMPLES)]
+            sides = {sign(at(*moved(cell, along, place))[across]) for place in places}
+            for by in (-1, 1):
+                into = moved(cell, across, by)
+                if by in sides and is_inside(into):
+                    found.append([cell, into])
+    return found
+
+
+# ---- the finest partition into locally closed parts that keeps each list together
+
+class Parts:
+    """A partition that grows coarser: each cell has the number of its part, each part the list of its cells."""
+
+    def __init__(self, cells):
+        self.part_of = {cell: number for number, cell in enumerate(cells)}
+        self.cells_of = {number: [cell] for number, cell in enumerate(cells)}
+
+    def merge(self, one, other):
+        """Makes one part of two, and says whether they were two."""
+        one, other = self.part_of[one], self.part_of[other]
+        if one == other:
+            return False
+        if len(self.cells_of[one]) < len(self.cells_of[other]):
+            one, other = other, one
+        for cell in self.cells_of[other]:
+            self.part_of[cell] = one
+        self.cells_of[one] += self.cells_of.pop(other)
+        return True
+
+    def find_gap(self, number):
+        """A cell of the part and a face of it outside that has a face in the part, if there are such."""
+        own = set(self.cells_of[number])
+        for x in own:
+            for y in faces(x):
+                if y not in own and any(z in own for z in faces(y)):
+                    return x, y
+        return None
+
+
+def hull(cells, lists):
+    """Merges what each list keeps together, then across gaps until no part has one."""
+    parts = Parts(cells)
+    for listed in lists:
+        for cell in listed[1:]:
+            parts.merge(listed[0], cell)
+    waiting = list(parts.cells_of)
+    while waiting:
+        number = waiting.pop()
+        while number in parts.cells_of:
+            gap = parts.find_gap(number)
+            if gap is None:
+                break
+            parts.merge(*gap)
+            waiting.append(parts.part_of[gap[0]])
+    return list(parts.cells_of.values())
+
+
+# ---- the file
+
+def problem(flow, n, low, high):
+    cells = cells_of_grid(n)
+    number = {cell: k for k, cell in enumerate(cells)}
+    parts = hull(cells, lists_of_samples(flow, n, low, high))
+    listed = sorted(sorted(number[cell] for cell in part) for part in parts if len(part) > 1)
+    return {
+        "version": 1,
+        "scalars": 2,
+        "complex": {
+            "kind": "lefschetz",
+            "cells": [[label(cell), dimension(cell)] for cell in cells],
+            "incidences": [[number[cell], number[face], value] for cell in cells for face, value in boundary(cell)],
+        },
+        "field": {"kind": "whole", "parts": [[label(cells[k]) for k in part] for part in listed]},
+    }
+
+
+def main(words):
+    if len(words) != 1:
+        sys.exit("usage: make.py FOLDER")
+    for name, flow, n, low, high in FLOWS:
+        os.makedirs(os.path.join(words[0], name), exist_ok=True)
+        with open(os.path.join(words[0], name, "problem.json"), "w", encoding="utf-8") as file:
+            json.dump(problem(flow, n, low, high), file, separators=(",", ":"))
+            file.write("\n")
+
+
+if __name__ == "__main__":
+    main(sys.argv[1:])
