@@ -1,6 +1,6 @@
 -- Nodes of classes, rows of bits between them, and reach of all nodes by these.
-use Rattle.std.proofs.Common.{◌≡◌, ◌≢◌, inl, inr, ◌+◌, ◌*◌, ◌<◌, ◌≤◌, ℕ, Bool, true, List, [], ◌∷◌, ◌++◌, length, get_or, Vec, Global, refl, sym, ap, ◌∙◌, subst, arith, length-append}
-use Rattle.std.specs.Prelude.{◌==◌, All, ◌↔◌, slice_index}
+use Rattle.std.proofs.Common.{◌≡◌, ◌≢◌, inl, inr, ◌+◌, ◌*◌, ◌<◌, ◌≤◌, ℕ, true, List, [], ◌∷◌, ◌++◌, length, Vec, Global, sym, ap, ◌∙◌, subst, arith, length-append}
+use Rattle.std.specs.Prelude.{◌==◌, ◌↔◌, slice_index}
 use Rattle.std.proofs.Math.Seq.{get_or-append_seam}
 use Rattle.std.proofs.lemmas.Bool.{cases_eq, cases_order, eqb-true, eq-eqb}
 use Rattle.std.proofs.lemmas.List.{get_or_append_left, map-append, get_or_default}
@@ -9,8 +9,7 @@ use Rattle.conley_walk.specs.Walk.{Reaches}
 use Rattle.conley_walk.specs.Lists.{items_of, ListedStep}
 use Rattle.conley_walk.proofs.WalkLemmas.{reaches_itself, reaches_on}
 use Rattle.conley_walk.proofs.ListLemmas.{row_at_end, row_before}
-use Rattle.conley_order.specs.Preorder.{IsPreorder}
-use Rattle.conley_order.specs.ClassRows.{ClassRows, AreClassRows, word_bit, row_bit, is_at_or_below}
+use Rattle.conley_order.specs.ClassRows.{AreClassRows, word_bit, is_at_or_below}
 use Rattle.conley_digraph.specs.Classes.{AreClasses, ReachEachOther}
 use Rattle.conley_digraph.specs.Rows.{IsInOrder, AreNodesOf, AreRowsOf}
 

@@ -1,9 +1,9 @@
 -- Entries of lists, lists put in order, and lists that gain an entry.
-use Rattle.std.proofs.Common.{◌≡◌, ◌⊎◌, inl, inr, ◌+◌, ◌<◌, ◌≤◌, ℕ, zero, suc, List, [], ◌∷◌, ◌++◌, length, get_or, take, drop, Vec, Global, set, replicate, refl, sym, ap, ◌∙◌, subst, arith, append_assoc, length-append, get_or-set_other, get_or-set_same}
+use Rattle.std.proofs.Common.{◌≡◌, ◌⊎◌, inl, inr, ◌+◌, ◌-◌, ◌<◌, ◌≤◌, ℕ, zero, suc, List, [], ◌∷◌, ◌++◌, length, get_or, take, drop, Vec, Global, set, replicate, refl, sym, ap, ◌∙◌, subst, arith, append_assoc, length-append, get_or-set_other, get_or-set_same}
 use Rattle.std.specs.Prelude.{All, Contains, ◌↔◌, slice_index}
 use Rattle.std.specs.List.Sorted.{IsStrictlyIncreasing}
 use Rattle.std.proofs.lemmas.Bool.{cases_eq, cases_lt, cases_order}
-use Rattle.std.proofs.lemmas.List.{take_more, take-append-drop, map-append, map-set, length-set, get_or_append_left, get_or_past, get_or-append-add, get_or-replicate, length-replicate, take-append-le, append-nil}
+use Rattle.std.proofs.lemmas.List.{take_more, take-append-drop, map-append, map-set, length-set, get_or_append_left, get_or_past, get_or_default, get_or-append-add, get_or-replicate, length-replicate, take-append-le, append-nil}
 use Rattle.std.proofs.Math.Seq.{take-append-add}
 use Rattle.std.proofs.lemmas.List.Concat.{flat_map-append, flat_map-cons, length-flat_map}
 use Rattle.std.proofs.lemmas.List.Sums.{sum_by-set}
@@ -20,6 +20,21 @@ entry_of_step (list ∷ lists) (suc x) y s = rw (flat_map-cons (λ (l : List ℕ
 -- lists whose entries are in range are a digraph
 pub digraph_from_entries : (lists : List (List ℕ)) → All (λ y. y < length lists) (entries_of lists) → IsDigraph lists
 digraph_from_entries lists all x y s = All-contains (λ q. q < length lists) (entries_of lists) y all (entry_of_step lists x y s)
+
+-- each entry of lists with numbers below n is below n
+entry_below : (n : ℕ) (lists : List (List ℕ)) → ((x y : ℕ) → ListedStep lists x y → y < n) → (k : ℕ) → k < length (entries_of lists) → slice_index (entries_of lists) k < n
+entry_below n [] below k lt = absurd (omega arith)
+entry_below n (xs ∷ rest) below k lt = elim (cases_lt k (length xs)) [
+  | inl here ↦ omega (arith, get_or_append_left xs (entries_of rest) 0 k here, below 0 (get_or xs k 0) (k, here, get_or_default xs k (get_or xs k 0) 0 here))
+  | inr later ↦
+      let lt' : k - length xs < length (entries_of rest) = omega (arith, lt, length-append xs (entries_of rest)) in
+      let e : length xs + (k - length xs) ≡ k = omega arith in
+      omega (arith, entry_below n rest (λ x y s. below (suc x) y s) (k - length xs) lt', get_or-append-add xs (entries_of rest) (k - length xs) 0, ap (λ i. get_or (xs ++ entries_of rest) i 0) e)
+]
+
+-- in a digraph no entry is out of range
+pub none_out_of_range : (lists : List (List ℕ)) → IsDigraph lists → (k : ℕ) → ¬ IsFirstOutOfRange lists k
+none_out_of_range lists digraph k first = omega (arith, first.out_of_range, entry_below (length lists) lists digraph k first.is_entry)
 
 -- the entries of joined lists
 pub entries_append : (a b : List (Vec ℕ Global)) → entries_of (items_of (a ++ b)) ≡ entries_of (items_of a) ++ entries_of (items_of b)

@@ -1,11 +1,8 @@
 -- rows of all classes
-use Rattle.std.proofs.Common.{arith, ◌≡◌, ◌<◌, ℕ, List, Vec, Global, length, get_or, ap, sym, ◌∙◌, subst}
-use Rattle.std.specs.Prelude.{◌↔◌, true}
+use Rattle.std.proofs.Common.{arith, length, ap, subst}
 use Rattle.std.proofs.lemmas.List.{get_or_default}
-use Rattle.conley_walk.specs.Walk.{Reaches}
-use Rattle.conley_walk.specs.Lists.{items_of, ListedStep}
+use Rattle.conley_walk.specs.Lists.{items_of}
 use Rattle.conley_walk.proofs.ListLemmas.{length-items_of}
-use Rattle.conley_order.specs.ClassRows.{ClassRows, AreClassRows, is_at_or_below}
 use Rattle.conley_digraph.specs.Classes.{AreClasses}
 use Rattle.conley_digraph.specs.Rows.{AreNodesOf, AreRowsOf}
 use Rattle.conley_digraph.proofs.RowLemmas.{class_rows, class_reach}
@@ -45,8 +42,8 @@ class_rows-requires-clause-nodes c =
     let d = (goal.at.class_rows-requires-clause-nodes c).After-deref-4 in
     let nodes = c.in_ok-nodes.nodes.items in
     rw c.deref-4.ensures.value (λ k d' lt.
-        let w = ((are_nodes d).node k lt).0 in
-        omega (arith, w, get_or_default nodes k d' 0 lt, (are_classes d).count, ap length c.deref-3.ensures.value, ap length c.self.view_is, length-items_of c.self.inside.heads.items))
+    let w = ((are_nodes d).node k lt).0 in
+    omega (arith, w, get_or_default nodes k d' 0 lt, (are_classes d).count, ap length c.deref-3.ensures.value, ap length c.self.view_is, length-items_of c.self.inside.heads.items))
 
 pub from_rows-requires : goal.from_rows-requires
 from_rows-requires c =

@@ -1,0 +1,82 @@
+-- What the steps that make a partition say of what they made; no public clause cites it.
+--     FindsFirst P answer            the first pair of numbers at which P holds, if there is one
+--     FindsFirstPlace n P answer     the same over one number below n
+--     FindsFirstGap P answer         the same over a number and a triple
+--     IsKnown seen part k            number k of the part has a mark or stands before in the part
+--     MarksPart part seen seen' answer   the first number that is known; where there is none, all are marked besides
+--     MarkedSoFar lists n seen       the marks are those of the first n lists, of which no number stood earlier
+--     first_in lists k               the first number of list k
+--     PutsFirst old new list         the numbers of the list have its first number, all others what they had
+--     TellsFirst lists n cells least    a cell of one of the first n lists has the first cell of such a list, any other has itself
+--     AreLeast least                 a cell that is had by another is no later and has itself
+--     NumbersSoFar least n part_of next   parts of the first n cells: cells of one part are those that have one cell
+--     ArePartsSoFar part_of n cells  list p has those of the first n cells whose part is p, ascending
+--     IsPartitionTable part_of cells what a value of `Partition` keeps
+use Rattle.std.specs.Prelude.{◌≡◌, ◌⊎◌, ◌↔◌, ◌<◌, ◌≤◌, ℕ, List, [], ◌∷◌, Bool, Option, Some, None, Contains, length, slice_index, slice_index_or}
+use Rattle.std.specs.List.Sorted.{IsStrictlyIncreasing}
+use Rattle.conley_first.specs.First.{Precedes}
+use Rattle.conley_walk.specs.Lists.{IsMarked, ListedStep}
+use Rattle.conley_mvf.specs.Fault.{IsAt, StoodEarlier}
+use Rattle.conley_mvf.specs.Partition.{IsPartition}
+
+abbrev pub FindsFirst : (ℕ → ℕ → Type 0) → Option (ℕ × ℕ) → Type 0
+FindsFirst P None = (l q : ℕ) → ¬ P l q
+FindsFirst P (Some p) = P p.0 p.1 × ((l q : ℕ) → Precedes (l ∷ q ∷ []) (p.0 ∷ p.1 ∷ []) → ¬ P l q)
+
+abbrev pub FindsFirstPlace : ℕ → (ℕ → Type 0) → Option ℕ → Type 0
+FindsFirstPlace n P None = (j : ℕ) → j < n → ¬ P j
+FindsFirstPlace n P (Some k) = (k < n) × P k × ((j : ℕ) → j < k → ¬ P j)
+
+abbrev pub FindsFirstGap : (ℕ → ℕ → ℕ → ℕ → Type 0) → Option (ℕ × (ℕ × ℕ × ℕ)) → Type 0
+FindsFirstGap P None = (k x y z : ℕ) → ¬ P k x y z
+FindsFirstGap P (Some (k, t)) = P k t.0 t.1 t.2 × ((l x y z : ℕ) → Precedes (l ∷ x ∷ y ∷ z ∷ []) (k ∷ t.0 ∷ t.1 ∷ t.2 ∷ []) → ¬ P l x y z)
+
+abbrev pub IsKnown : List Bool → List ℕ → ℕ → Type 0
+IsKnown seen part k = IsMarked seen (slice_index part k) ⊎ ((j : ℕ) × (j < k) × (slice_index part j ≡ slice_index part k))
+
+-- the marks of seen, and those of the first n numbers of the part
+abbrev pub MarksFirst : List ℕ → ℕ → List Bool → List Bool → Type 0
+MarksFirst part n seen seen' = (x : ℕ) → IsMarked seen' x ↔ (IsMarked seen x ⊎ ((j : ℕ) × (j < n) × (slice_index part j ≡ x)))
+
+abbrev pub MarksPart : List ℕ → List Bool → List Bool → Option ℕ → Type 0
+MarksPart part seen seen' (Some k) = (k < length part) × IsKnown seen part k × ((j : ℕ) → j < k → ¬ IsKnown seen part j)
+MarksPart part seen seen' None = ((j : ℕ) → j < length part → ¬ IsKnown seen part j) × MarksFirst part (length part) seen seen'
+
+pub record MarkedSoFar (lists : List (List ℕ)) (n : ℕ) (seen : List Bool) : Type 0 where
+  pub marks : (x : ℕ) → IsMarked seen x ↔ ((l : ℕ) × (p : ℕ) × (l < n) × IsAt lists l p x)
+  pub none : (l p : ℕ) → l < n → ¬ StoodEarlier lists l p
+
+abbrev pub first_in : List (List ℕ) → ℕ → ℕ
+first_in lists k = slice_index (slice_index_or lists k []) 0
+
+pub record PutsFirst (old new list : List ℕ) : Type 0 where
+  pub count : length new ≡ length old
+  pub put : (x : ℕ) → Contains list x → slice_index new x ≡ slice_index list 0
+  pub kept : (x : ℕ) → ¬ Contains list x → slice_index new x ≡ slice_index old x
+
+pub record TellsFirst (lists : List (List ℕ)) (n cells : ℕ) (least : List ℕ) : Type 0 where
+  pub count : length least ≡ cells
+  pub cases : (x : ℕ) → x < cells → ((slice_index least x ≡ x) × ((k : ℕ) → k < n → ¬ ListedStep lists k x)) ⊎ ((k : ℕ) × (k < n) × ListedStep lists k x × (slice_index least x ≡ first_in lists k))
+
+pub record AreLeast (least : List ℕ) : Type 0 where
+  pub low : (x : ℕ) → x < length least → slice_index least x ≤ x
+  pub fixed : (x : ℕ) → x < length least → slice_index least (slice_index least x) ≡ slice_index least x
+
+pub record NumbersSoFar (least : List ℕ) (n : ℕ) (part_of : List ℕ) (next : ℕ) : Type 0 where
+  pub count : length part_of ≡ n
+  pub few : next ≤ n
+  pub below : (y : ℕ) → y < n → slice_index part_of y < next
+  pub used : (k : ℕ) → k < next → (y : ℕ) × (y < n) × (slice_index part_of y ≡ k)
+  pub same : (x y : ℕ) → x < n → y < n → (slice_index part_of x ≡ slice_index part_of y) ↔ (slice_index least x ≡ slice_index least y)
+  pub in_order : (x k : ℕ) → x < n → k < slice_index part_of x → (y : ℕ) × (y < x) × (slice_index part_of y ≡ k)
+
+pub record ArePartsSoFar (part_of : List ℕ) (n : ℕ) (cells : List (List ℕ)) : Type 0 where
+  pub few : length cells ≤ n
+  pub below : (x : ℕ) → x < n → slice_index part_of x < length cells
+  pub used : (p : ℕ) → p < length cells → (x : ℕ) × (x < n) × (slice_index part_of x ≡ p)
+  pub ascending : (p : ℕ) → IsStrictlyIncreasing (slice_index_or cells p [])
+  pub same : (p x : ℕ) → ListedStep cells p x ↔ ((x < n) × (slice_index part_of x ≡ p))
+
+pub record IsPartitionTable (part_of : List ℕ) (cells : List (List ℕ)) : Type 0 where
+  pub partition : IsPartition part_of
+  pub parts : ArePartsSoFar part_of (length part_of) cells

@@ -1,0 +1,41 @@
+-- Partitions of cells: the number of the part of each cell. The cells are the numbers below the length of that list.
+--     IsInPart part_of p x           x is a cell of part p
+--     ShareAPart part_of x y         x and y are cells of one part
+--     IsPartNumber part_of p         part p has a cell
+--     AreCellsOf part_of p cells     the list has the cells of part p and no others
+--     IsPartition part_of            parts are numbered in the order of their least cells
+--     IsMultivectorField faces part_of    each cell of the faces has a part, and every part is locally closed
+--     ShareAList lists x y           x and y stand in one of the lists
+--     IsWhole lists part_of          the parts are the lists, and one part for each other cell
+-- After Mrozek and Wanner; the wording is this project's own.
+use Rattle.std.specs.Prelude.{◌≡◌, ◌⊎◌, ◌↔◌, ◌<◌, ◌^◌, ℕ, List, Contains, length, slice_index}
+use Rattle.conley_walk.specs.Lists.{ListedStep}
+use Rattle.conley_faces.specs.Face.{IsLocallyClosed}
+
+abbrev pub IsInPart : List ℕ → ℕ → ℕ → Type 0
+IsInPart part_of p x = (x < length part_of) × (slice_index part_of x ≡ p)
+
+abbrev pub ShareAPart : List ℕ → ℕ → ℕ → Type 0
+ShareAPart part_of x y = (x < length part_of) × IsInPart part_of (slice_index part_of x) y
+
+abbrev pub IsPartNumber : List ℕ → ℕ → Type 0
+IsPartNumber part_of p = (x : ℕ) × IsInPart part_of p x
+
+pub record AreCellsOf (part_of : List ℕ) (p : ℕ) (cells : List ℕ) : Type 0 where
+  pub same : (x : ℕ) → Contains cells x ↔ IsInPart part_of p x
+
+pub record IsPartition (part_of : List ℕ) : Type 0 where
+  -- a cell's number has 32 bits
+  pub few : length part_of < 2 ^ 32
+  -- each smaller number is that of an earlier cell
+  pub in_order : (x k : ℕ) → x < length part_of → k < slice_index part_of x → (y : ℕ) × (y < x) × (slice_index part_of y ≡ k)
+
+pub record IsMultivectorField (faces : List (List ℕ)) (part_of : List ℕ) : Type 0 where
+  pub count : length part_of ≡ length faces
+  pub closed : (p : ℕ) (cells : List ℕ) → AreCellsOf part_of p cells → IsLocallyClosed faces cells
+
+abbrev pub ShareAList : List (List ℕ) → ℕ → ℕ → Type 0
+ShareAList lists x y = (k : ℕ) × ListedStep lists k x × ListedStep lists k y
+
+abbrev pub IsWhole : List (List ℕ) → List ℕ → Type 0
+IsWhole lists part_of = (x y : ℕ) → x < length part_of → y < length part_of → (slice_index part_of x ≡ slice_index part_of y) ↔ ((x ≡ y) ⊎ ShareAList lists x y)

@@ -1,0 +1,77 @@
+//! The numbers of parts, and the cells of each.
+
+ghost use Rattle.std.specs.Prelude.{◌≡◌, ◌<◌, ◌^◌, ℕ, All, IfOk, length, slice_index};
+ghost use Rattle.conley_walk.specs.Lists.{items_of, ListedStep};
+ghost use Rattle.conley_mvf.specs.Partition.{IsPartition};
+ghost use Rattle.conley_mvf.specs.Making.{PutsFirst, TellsFirst, AreLeast, NumbersSoFar, ArePartsSoFar};
+
+use conley_walk::put_under;
+use std::alloc::{AllocError, Global};
+
+/// Gives the first number of the list to each of its numbers.
+fn put_first(least: &mut Vec<u32>, list: &[u32])
+    requires { All (λ x. x < length least.old.items) list.now }
+    ensures { PutsFirst least.old.items least.new.items list.now }
+{
+    for x in list {
+        least[*x as usize] = list[0];
+    }
+}
+
+/// For each cell the first cell of its list, or the cell itself where it stands in none.
+pub(crate) fn firsts_of(
+    alloc: Global,
+    cells: usize,
+    lists: &[Vec<u32>],
+) -> Result<Vec<u32>, AllocError>
+    requires count { cells < 2 ^ 32 }
+    requires cells { (k x : ℕ) → ListedStep (items_of lists.now) k x → x < cells }
+    ensures { IfOk result (λ least. TellsFirst (items_of lists.now) (length lists.now) cells least.items) }
+{
+    let mut least = Vec::new(alloc);
+    for x in 0..cells as u32 {
+        least.push(x)?;
+    }
+    for list in lists {
+        put_first(&mut least, list);
+    }
+    Ok(least)
+}
+
+/// Numbers for the cells, one for those that have one least cell, in the order of these.
+pub(crate) fn numbers_of(alloc: Global, least: &[u32]) -> Result<Vec<u32>, AllocError>
+    requires count { length least.now < 2 ^ 32 }
+    requires least { AreLeast least.now }
+    ensures { IfOk result (λ part_of. (next : ℕ) × NumbersSoFar least.now (length least.now) part_of.items next) }
+{
+    let mut part_of = Vec::new(alloc);
+    let mut next = 0;
+    for x in 0..least.len() {
+        let first = least[x] as usize;
+        if first == x {
+            part_of.push(next)?;
+            next += 1;
+        } else {
+            let number = part_of[first];
+            part_of.push(number)?;
+        }
+    }
+    Ok(part_of)
+}
+
+/// The cells of each part, ascending.
+pub(crate) fn parts_of(alloc: Global, part_of: &[u32]) -> Result<Vec<Vec<u32>>, AllocError>
+    requires { IsPartition part_of.now }
+    ensures { IfOk result (λ cells. ArePartsSoFar part_of.now (length part_of.now) (items_of cells.items)) }
+{
+    let mut cells = Vec::new(alloc);
+    for x in 0..part_of.len() as u32 {
+        let part = part_of[x as usize];
+        if part as usize == cells.len() {
+            cells.push(vec![in alloc; x]?)?;
+        } else {
+            put_under(&mut cells, part, x)?;
+        }
+    }
+    Ok(cells)
+}

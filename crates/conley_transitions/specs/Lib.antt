@@ -1,0 +1,7 @@
+pub mod Step
+pub mod Making
+pub mod Field
+pub mod Lasso
+pub mod Morse
+pub mod Invariant
+pub mod Isolation
