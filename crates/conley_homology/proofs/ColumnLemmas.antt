@@ -1,19 +1,20 @@
 -- Chains with their boundaries: one cell, sums, and where they end.
-use Rattle.std.proofs.Common.{◌≡◌, ◌≢◌, ◌⊎◌, inl, inr, ℕ, zero, suc, ◌+◌, ◌<◌, ◌≤◌, Bool, true, false, cond, List, [], ◌∷◌, length, get_or, ap, sym, ◌∙◌, arith, refl, subst, Option, Some}
-use Rattle.std.proofs.lemmas.Bool.{cases_eq, cases_lt, eq-eqb, ne_eqb}
+use Rattle.std.proofs.Common.{◌≡◌, ◌≢◌, ◌⊎◌, inl, inr, ℕ, zero, suc, ◌+◌, ◌<◌, ◌≤◌, true, cond, List, [], ◌∷◌, length, get_or, ap, sym, ◌∙◌, arith, refl, subst, Option, Some}
+use Rattle.std.proofs.lemmas.Bool.{cases_Bool, cases_eq, cases_lt, eq-eqb, ne_eqb}
 use Rattle.std.proofs.lemmas.List.{get_or_default}
 use Rattle.conley_field.specs.Arithmetic.{Arithmetic, IsField}
 use Rattle.conley_algebra.specs.Entries.{Vector, Entries, image_of, OnlyWhere}
 use Rattle.conley_algebra.proofs.SumLemmas as sums
 use Rattle.conley_algebra.proofs.ImageLemmas as images
 use Rattle.conley_algebra.proofs.ImageLemmas.{image-not_zero}
+use Rattle.conley_chains.proofs.ChainLemmas.{coefficient-below}
 use Rattle.conley_chains.specs.Chain.{coefficient, HasCodes}
 use Rattle.conley_chains.specs.Matrix.{Table, entry, column_count}
 use Rattle.conley_homology.specs.Reduced.{IsUpTo, IsColumn, EndsAt}
 use Rattle.conley_homology.specs.Own.{is_listed, own_entries, place_in, owner_at, vector_at, IsOwnComplex, IsDone, IsEnd, IsChainFor, IsLast, IsReducedSoFar}
 use Rattle.conley_lefschetz.specs.Listing.{dim_in}
 use Rattle.std.specs.List.Sorted.{IsStrictlyIncreasing}
-use Rattle.std.proofs.lemmas.List.Elements.{All-head, All-tail, All-cons, All-nil}
+use Rattle.std.proofs.lemmas.List.Elements.{All-cons, All-nil}
 use Rattle.conley_homology.proofs.PlaceLemmas.{listed_place, place-distinct, place_before}
 
 module _ {F : Arithmetic} (laws : IsField F) (n : ℕ) (d : Entries) (dim place : ℕ → ℕ) where
@@ -100,17 +101,6 @@ module _ {F : Arithmetic} (laws : IsField F) (n : ℕ) (d : Entries) (dim place 
   column-level i y v r one_down column some =
       let at = image-not_zero laws n d v y (λ none. some (column.is y ∙ none)) in
       sym (column.level at.0 at.1.1) ∙ one_down y at.0 at.1.0
-
-bool_cases : (b : Bool) → (b ≡ true) ⊎ (b ≡ false)
-bool_cases true = inl refl
-bool_cases false = inr refl
-
-pub coefficient-below : {F : Arithmetic} (laws : IsField F) (es : List (ℕ × ℕ)) (x : ℕ) → HasCodes F es → coefficient es x < F.order
-coefficient-below laws [] x codes = sums.zero_below laws
-coefficient-below {F} laws (e ∷ es) x codes = elim (cases_eq x e.0) [
-  | inl same ↦ subst (λ t. t < F.order) (sym (ap (λ b. cond b e.1 (coefficient es x)) (eq-eqb x e.0 same))) (All-head (λ (a : ℕ × ℕ). a.1 < F.order) e es codes)
-  | inr other ↦ subst (λ t. t < F.order) (sym (ap (λ b. cond b e.1 (coefficient es x)) (ne_eqb x e.0 other))) (coefficient-below laws es x (All-tail (λ (a : ℕ × ℕ). a.1 < F.order) e es codes))
-]
 
 -- a chain that is read
 pub chain_read : (chains : List (List (ℕ × ℕ))) (j : ℕ) (es : List (ℕ × ℕ)) → j < length chains → es ≡ get_or chains j es → es ≡ get_or chains j []
@@ -209,7 +199,7 @@ module _ {F : Arithmetic} (laws : IsField F) (m : Table) (dims set : List ℕ) (
   pub chain-listed : (i : ℕ) (own_kept own_reduced : List (ℕ × ℕ)) → IsChainFor F m dims set i own_kept own_reduced → (x : ℕ) → coefficient own_reduced x ≢ 0 → is_listed set x ≡ true
   chain-listed i own_kept own_reduced chains x some =
       let at = image-not_zero laws (column_count m) (own_entries m set) (coefficient own_kept) x (λ none. some (chains.column.is x ∙ none)) in
-      elim (bool_cases (is_listed set x)) [
+      elim (cases_Bool (is_listed set x)) [
         | inl h ↦ h
         | inr h ↦ absurd (at.1.0 (ap (λ b. cond b (cond (is_listed set at.0) (entry m x at.0) 0) 0) h))
       ]

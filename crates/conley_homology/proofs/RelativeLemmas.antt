@@ -1,7 +1,7 @@
 -- The free cells' cycles are a basis of the homology of the set.
-use Rattle.std.proofs.Common.{◌≡◌, ◌≢◌, ◌⊎◌, inl, inr, ℕ, ◌+◌, ◌<◌, ◌≤◌, Bool, true, false, cond, List, [], length, get_or, ap, sym, ◌∙◌, arith, refl, subst, Option}
+use Rattle.std.proofs.Common.{◌≡◌, ◌≢◌, inl, inr, ℕ, ◌+◌, ◌<◌, ◌≤◌, Bool, true, false, cond, List, [], length, get_or, ap, sym, ◌∙◌, arith, subst, Option}
 use Rattle.std.specs.Prelude.{Contains}
-use Rattle.std.proofs.lemmas.Bool.{cases_eq, cases_lt, true≢false}
+use Rattle.std.proofs.lemmas.Bool.{cases_Bool, cases_eq, cases_lt, true≢false}
 use Rattle.std.proofs.lemmas.List.{get_or_default}
 use Rattle.std.proofs.Math.ListN.{get_or-eq_default}
 use Rattle.conley_field.specs.Arithmetic.{Arithmetic, IsField}
@@ -25,10 +25,6 @@ use Rattle.conley_homology.proofs.SplittingLemmas.{reduced-IsHomologyBasis}
 use Rattle.conley_homology.proofs.CollectedLemmas.{IsGathered, same-IsBasisModulo}
 use Rattle.conley_homology.proofs.StateLemmas.{all_done}
 
-bool_cases : (b : Bool) → (b ≡ true) ⊎ (b ≡ false)
-bool_cases true = inl refl
-bool_cases false = inr refl
-
 -- the complex of a set's own cells is one
 module _ {F : Arithmetic} (laws : IsField F) (n : ℕ) (d : Entries) (inside : ℕ → Bool) (closure mouth : ℕ → Type 0) (shape : IsClosedAround d inside closure mouth) where
   own-inside : (y x : ℕ) → inside y ≡ true → inside x ≡ true → own_boundary inside d y x ≡ d y x
@@ -38,7 +34,7 @@ module _ {F : Arithmetic} (laws : IsField F) (n : ℕ) (d : Entries) (inside : �
   own-row y x row = ap (λ b. cond b (cond (inside x) (d y x) 0) 0) row
 
   own-column : (y x : ℕ) → inside x ≡ false → own_boundary inside d y x ≡ 0
-  own-column y x column = elim (bool_cases (inside y)) [
+  own-column y x column = elim (cases_Bool (inside y)) [
     | inl h ↦ ap (λ b. cond b (cond (inside x) (d y x) 0) 0) h ∙ ap (λ b. cond b (d y x) 0) column
     | inr h ↦ own-row y x h
   ]
@@ -53,11 +49,11 @@ module _ {F : Arithmetic} (laws : IsField F) (n : ℕ) (d : Entries) (inside : �
   ]
 
   pub own-squares : SameEntries (product_of F n d d) zero_entries → SameEntries (product_of F n (own_boundary inside d) (own_boundary inside d)) zero_entries
-  own-squares squares x z = elim (bool_cases (inside x)) [
+  own-squares squares x z = elim (cases_Bool (inside x)) [
     | inr out ↦ sums.sum_below-zero laws n _ (λ y below. ap (λ t. F.mul t (own_boundary inside d y z)) (own-row x y out) ∙ sums.zero-mul laws (own_boundary inside d y z))
-    | inl x_in ↦ elim (bool_cases (inside z)) [
+    | inl x_in ↦ elim (cases_Bool (inside z)) [
       | inr out ↦ sums.sum_below-zero laws n _ (λ y below. ap (F.mul (own_boundary inside d x y)) (own-column y z out) ∙ sums.mul-zero laws (own_boundary inside d x y))
-      | inl z_in ↦ sums.sum_below-congr laws n _ _ (λ y below. elim (bool_cases (inside y)) [
+      | inl z_in ↦ sums.sum_below-congr laws n _ _ (λ y below. elim (cases_Bool (inside y)) [
         | inl y_in ↦ ap (λ t. F.mul t (own_boundary inside d y z)) (own-inside x y x_in y_in) ∙ ap (F.mul (d x y)) (own-inside y z y_in z_in)
         | inr y_out ↦
             ap (F.mul (own_boundary inside d x y)) (own-row y z y_out) ∙ sums.mul-zero laws (own_boundary inside d x y) ∙ sym (through x y z x_in z_in y_out)
@@ -66,9 +62,9 @@ module _ {F : Arithmetic} (laws : IsField F) (n : ℕ) (d : Entries) (inside : �
   ]
 
   pub own-one_down : (dim : ℕ → ℕ) → OnlyWhere (λ y x. dim x ≡ dim y + 1) d → OnlyWhere (λ y x. dim x ≡ dim y + 1) (own_boundary inside d)
-  own-one_down dim one_down y x some = one_down y x (λ none. some (elim (bool_cases (inside y)) [
+  own-one_down dim one_down y x some = one_down y x (λ none. some (elim (cases_Bool (inside y)) [
     | inr h ↦ own-row y x h
-    | inl y_in ↦ elim (bool_cases (inside x)) [ inr h ↦ own-column y x h | inl x_in ↦ own-inside y x y_in x_in ∙ none ]
+    | inl y_in ↦ elim (cases_Bool (inside x)) [ inr h ↦ own-column y x h | inl x_in ↦ own-inside y x y_in x_in ∙ none ]
   ]))
 
 module _ {F : Arithmetic} (laws : IsField F) (m : Table) (dims : List ℕ) (faces : List (List ℕ)) (complex : IsComplex F m dims faces) (set : List ℕ) (cells : IsCellList faces set) (closed : IsLocallyClosed faces set) where
@@ -92,7 +88,7 @@ module _ {F : Arithmetic} (laws : IsField F) (m : Table) (dims : List ℕ) (face
     inside_closure = λ x h. let c = contained x h in (x, c, record { cell = All-cell x c; walk = reaches_itself x });
     closure_faces = λ y x some c. (c.0, c.1, record { cell = c.2.cell; walk = reaches_on c.2.walk (reaches_by_step (step x y some)) });
     rest_mouth = λ x c out. (c, λ h. true≢false (sym (listed x h) ∙ out));
-    mouth_faces = λ y x some mouth. elim (bool_cases (is_listed set y)) [
+    mouth_faces = λ y x some mouth. elim (cases_Bool (is_listed set y)) [
       | inr h ↦ h
       | inl h ↦ absurd (closed mouth.0.0 x y (record {
         upper = mouth.0.1;
@@ -102,7 +98,7 @@ module _ {F : Arithmetic} (laws : IsField F) (m : Table) (dims : List ℕ) (face
         further = record { cell = step_cell x y (step x y some); walk = reaches_by_step (step x y some) };
       }))
     ];
-    mouth_outside = λ x mouth. elim (bool_cases (is_listed set x)) [ inr h ↦ h | inl h ↦ absurd (mouth.1 (contained x h)) ];
+    mouth_outside = λ x mouth. elim (cases_Bool (is_listed set x)) [ inr h ↦ h | inl h ↦ absurd (mouth.1 (contained x h)) ];
   } where
     All-cell : (x : ℕ) → Contains set x → x < length faces
     All-cell x c = subst (λ (y : ℕ). y < length faces) c.2 (cells.cells c.0 x c.1)

@@ -1,8 +1,8 @@
 //! Cycles collected by their dimension.
 
-ghost use Rattle.std.specs.Prelude.{◌≡◌, ◌<◌, ◌≤◌, ◌+◌, ◌^◌, ◌↔◌, IfOk, ℕ, length, IsTrue, true, false};
+ghost use Rattle.std.specs.Prelude.{◌≡◌, ◌<◌, ◌+◌, ◌^◌, IfOk, ℕ, length, true, false};
 ghost use Rattle.conley_homology.specs.Reduced.{IsFree};
-ghost use Rattle.conley_homology.specs.Own.{place_in, owner_at, vector_at, IsOwnComplex, IsReducedSoFar};
+ghost use Rattle.conley_homology.specs.Own.{place_in, owner_at, vector_at};
 ghost use Rattle.conley_lefschetz.specs.Listing.{dim_in};
 ghost use Rattle.conley_homology.specs.Homology.{IsCollected};
 
@@ -18,8 +18,10 @@ impl Columns {
         requires dims { (k : ℕ) → k < length part.now.set.now → place_in part.now.set.now k < length part.now.dims.now }
         requires reduced { length self.now.reduced.items ≡ length part.now.set.now }
         requires owner { length self.now.owner.items ≡ length part.now.set.now }
-        ensures yes { result ≡ true → IsFree (dim_in part.now.dims.now) (place_in part.now.set.now) (vector_at self.now.reduced.items) (owner_at self.now.owner.items) level i }
-        ensures no { result ≡ false → ¬ IsFree (dim_in part.now.dims.now) (place_in part.now.set.now) (vector_at self.now.reduced.items) (owner_at self.now.owner.items) level i }
+        ensures yes { result ≡ true →
+            IsFree (dim_in part.now.dims.now) (place_in part.now.set.now) (vector_at self.now.reduced.items) (owner_at self.now.owner.items) level i }
+        ensures no { result ≡ false →
+            ¬ IsFree (dim_in part.now.dims.now) (place_in part.now.set.now) (vector_at self.now.reduced.items) (owner_at self.now.owner.items) level i }
     {
         if part.dims[part.set[i] as usize] as usize != level {
             return false;
@@ -43,7 +45,9 @@ impl Columns {
         requires kept { length self.now.kept.items ≡ length part.now.set.now }
         requires reduced { length self.now.reduced.items ≡ length part.now.set.now }
         requires owner { length self.now.owner.items ≡ length part.now.set.now }
-        ensures { IfOk result (λ count. IsCollected self.now.kept.items (IsFree (dim_in part.now.dims.now) (place_in part.now.set.now) (vector_at self.now.reduced.items) (owner_at self.now.owner.items) level) (length part.now.set.now) count cycles.old.items cycles.new.items) }
+        ensures { IfOk result (λ count. IsCollected self.now.kept.items
+            (IsFree (dim_in part.now.dims.now) (place_in part.now.set.now) (vector_at self.now.reduced.items) (owner_at self.now.owner.items) level)
+            (length part.now.set.now) count cycles.old.items cycles.new.items) }
     {
         let mut count = 0;
         for i in 0..part.set.len() {

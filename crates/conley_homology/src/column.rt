@@ -1,10 +1,10 @@
 //! One column of the boundary of a set, reduced until it ends where no other does.
 
-ghost use Rattle.std.specs.Prelude.{◌≡◌, ◌≢◌, ◌<◌, ◌≤◌, ◌+◌, ◌↔◌, ◌^◌, [], All, IfOk, OnOk, IfSome, IfNone, IsNone, ℕ, Contains, length, slice_index, slice_index_or, false, true};
+ghost use Rattle.std.specs.Prelude.{◌≡◌, ◌≢◌, ◌<◌, ◌≤◌, ◌+◌, [], All, IfOk, IfSome, IfNone, ℕ, length, slice_index_or, false, true};
 ghost use Rattle.std.specs.List.Sorted.{IsStrictlyIncreasing};
 ghost use Rattle.conley_chains.specs.Chain.{coefficient, HasCodes};
-ghost use Rattle.conley_chains.specs.Matrix.{entry, column_count, AllCodes};
-ghost use Rattle.conley_homology.specs.Own.{is_listed, own_entries, place_in, owner_at, vector_at, IsLast, IsOwnComplex, IsDone, IsEnd, IsChainFor, IsReducedSoFar};
+ghost use Rattle.conley_chains.specs.Matrix.{entry, column_count};
+ghost use Rattle.conley_homology.specs.Own.{is_listed, own_entries, place_in, owner_at, IsLast, IsOwnComplex, IsDone, IsEnd, IsChainFor, IsReducedSoFar};
 ghost use Rattle.conley_lefschetz.specs.Listing.{dim_in};
 
 use crate::NoMemory;
@@ -42,7 +42,8 @@ fn own_column(alloc: Global, boundary: &Matrix, set: &[u32], cell: u32) -> Resul
     requires listed { is_listed set.now cell ≡ true }
     requires cell { cell < column_count boundary.now }
     ensures own { IfOk result (λ chain. (row : ℕ) → coefficient chain row ≡ own_entries boundary.now set.now row cell) }
-    ensures codes { IfOk result (λ chain. (n : ℕ) → All (λ e. e.1 < n) (slice_index_or boundary.now.columns cell []) → All (λ e. e.1 < n) chain) }
+    ensures codes { IfOk result (λ chain. (n : ℕ) →
+        All (λ e. e.1 < n) (slice_index_or boundary.now.columns cell []) → All (λ e. e.1 < n) chain) }
 {
     let mut kept = Vec::new(alloc);
     for e in boundary.column(cell).entries() {
@@ -110,7 +111,8 @@ fn multiple<F: Field>(field: &F, target: &Chain, source: &Chain, cell: u32) -> S
     requires source_codes { HasCodes (F.arithmetic field.now) source.now }
     requires some { coefficient source.now cell ≢ 0 }
     ensures below { result < (F.arithmetic field.now).order }
-    ensures clears { (F.arithmetic field.now).add (coefficient target.now cell) ((F.arithmetic field.now).mul result (coefficient source.now cell)) ≡ 0 }
+    ensures clears { (F.arithmetic field.now).add (coefficient target.now cell)
+        ((F.arithmetic field.now).mul result (coefficient source.now cell)) ≡ 0 }
 {
     field.neg(field.mul(target.entry(cell), field.inv(source.entry(cell))))
 }
@@ -124,7 +126,9 @@ pub(crate) fn reduced_column<F: Field>(
     i: usize,
 ) -> Result<Column, NoMemory>
     requires complex { IsOwnComplex (F.arithmetic field.now) part.now.boundary.now part.now.dims.now part.now.set.now }
-    requires so_far { IsReducedSoFar (F.arithmetic field.now) part.now.boundary.now part.now.dims.now part.now.set.now (IsDone part.now.dims.now part.now.set.now (dim_in part.now.dims.now (place_in part.now.set.now i)) i) columns.now.kept.items columns.now.reduced.items columns.now.owner.items }
+    requires so_far { IsReducedSoFar (F.arithmetic field.now) part.now.boundary.now part.now.dims.now part.now.set.now
+        (IsDone part.now.dims.now part.now.set.now (dim_in part.now.dims.now (place_in part.now.set.now i)) i)
+        columns.now.kept.items columns.now.reduced.items columns.now.owner.items }
     requires cell { i < length part.now.set.now }
     ensures chains { IfOk result (λ column. IsChainFor (F.arithmetic field.now) part.now.boundary.now part.now.dims.now part.now.set.now i column.kept column.reduced) }
     ensures end { IfOk result (λ column. IsEnd part.now.set.now column.reduced column.end) }

@@ -1,8 +1,8 @@
 //! The columns of all cells of a set reduced, those of the highest dimension first.
 
-ghost use Rattle.std.specs.Prelude.{◌≡◌, ◌≢◌, ◌<◌, ◌≤◌, ◌+◌, ◌↔◌, ◌^◌, [], All, IfOk, OnOk, ℕ, Some, None, length, slice_set};
-ghost use Rattle.conley_chains.specs.Chain.{HasCodes};
-ghost use Rattle.conley_homology.specs.Own.{place_in, owner_at, IsOwnComplex, IsDone, IsEnd, IsChainFor, IsReducedSoFar};
+ghost use Rattle.std.specs.Prelude.{◌≡◌, ◌<◌, ◌≤◌, ◌+◌, ◌^◌, [], All, IfOk, OnOk, ℕ, Some, None, length, slice_set};
+ghost use Rattle.conley_chains.specs.Chain.{};
+ghost use Rattle.conley_homology.specs.Own.{place_in, IsOwnComplex, IsDone, IsReducedSoFar};
 ghost use Rattle.conley_lefschetz.specs.Listing.{dim_in};
 
 use crate::NoMemory;
@@ -62,8 +62,12 @@ impl Columns {
     ) -> Result<(), NoMemory>
         requires complex { IsOwnComplex (F.arithmetic field.now) part.now.boundary.now part.now.dims.now part.now.set.now }
         requires cell { i < length part.now.set.now }
-        requires so_far { IsReducedSoFar (F.arithmetic field.now) part.now.boundary.now part.now.dims.now part.now.set.now (IsDone part.now.dims.now part.now.set.now level i) self.old.kept.items self.old.reduced.items self.old.owner.items }
-        ensures so_far { OnOk result (IsReducedSoFar (F.arithmetic field.now) part.now.boundary.now part.now.dims.now part.now.set.now (IsDone part.now.dims.now part.now.set.now level (i + 1)) self.new.kept.items self.new.reduced.items self.new.owner.items) }
+        requires so_far { IsReducedSoFar (F.arithmetic field.now) part.now.boundary.now part.now.dims.now part.now.set.now
+            (IsDone part.now.dims.now part.now.set.now level i)
+            self.old.kept.items self.old.reduced.items self.old.owner.items }
+        ensures so_far { OnOk result (IsReducedSoFar (F.arithmetic field.now) part.now.boundary.now part.now.dims.now part.now.set.now
+            (IsDone part.now.dims.now part.now.set.now level (i + 1))
+            self.new.kept.items self.new.reduced.items self.new.owner.items) }
     {
         if part.dims[part.set[i] as usize] as usize != level {
             return Ok(());
@@ -85,8 +89,12 @@ impl Columns {
         level: usize,
     ) -> Result<(), NoMemory>
         requires complex { IsOwnComplex (F.arithmetic field.now) part.now.boundary.now part.now.dims.now part.now.set.now }
-        requires so_far { IsReducedSoFar (F.arithmetic field.now) part.now.boundary.now part.now.dims.now part.now.set.now (λ j. level + 1 ≤ dim_in part.now.dims.now (place_in part.now.set.now j)) self.old.kept.items self.old.reduced.items self.old.owner.items }
-        ensures so_far { OnOk result (IsReducedSoFar (F.arithmetic field.now) part.now.boundary.now part.now.dims.now part.now.set.now (λ j. level ≤ dim_in part.now.dims.now (place_in part.now.set.now j)) self.new.kept.items self.new.reduced.items self.new.owner.items) }
+        requires so_far { IsReducedSoFar (F.arithmetic field.now) part.now.boundary.now part.now.dims.now part.now.set.now
+            (λ j. level + 1 ≤ dim_in part.now.dims.now (place_in part.now.set.now j))
+            self.old.kept.items self.old.reduced.items self.old.owner.items }
+        ensures so_far { OnOk result (IsReducedSoFar (F.arithmetic field.now) part.now.boundary.now part.now.dims.now part.now.set.now
+            (λ j. level ≤ dim_in part.now.dims.now (place_in part.now.set.now j))
+            self.new.kept.items self.new.reduced.items self.new.owner.items) }
     {
         for i in 0..part.set.len() {
             self.reduce_cell(alloc, field, part, level, i)?;
@@ -104,7 +112,9 @@ pub(crate) fn eliminated<F: Field>(
 ) -> Result<Columns, NoMemory>
     requires complex { IsOwnComplex (F.arithmetic field.now) part.now.boundary.now part.now.dims.now part.now.set.now }
     requires levels { All (λ dim. dim < levels) part.now.dims.now }
-    ensures { IfOk result (λ columns. IsReducedSoFar (F.arithmetic field.now) part.now.boundary.now part.now.dims.now part.now.set.now (λ j. 0 ≤ dim_in part.now.dims.now (place_in part.now.set.now j)) columns.kept.items columns.reduced.items columns.owner.items) }
+    ensures { IfOk result (λ columns. IsReducedSoFar (F.arithmetic field.now) part.now.boundary.now part.now.dims.now part.now.set.now
+        (λ j. 0 ≤ dim_in part.now.dims.now (place_in part.now.set.now j))
+        columns.kept.items columns.reduced.items columns.owner.items) }
 {
     let mut columns = Columns::start(alloc, part.set.len())?;
     let mut level = levels;

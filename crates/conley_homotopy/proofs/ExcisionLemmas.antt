@@ -1,16 +1,12 @@
 -- A basis for the cells of a set alone is one for its closure and mouth.
-use Rattle.std.proofs.Common.{◌≡◌, ◌≢◌, ℕ, ◌<◌, Bool, true, false, cond, ap, sym, ◌∙◌, refl, inl, inr, ◌⊎◌, subst}
+use Rattle.std.proofs.Common.{◌≡◌, ◌≢◌, ℕ, ◌<◌, Bool, true, false, cond, ap, sym, ◌∙◌, refl, inl, inr, subst}
 use mathlib.Core.Path.{fun_ext}
-use Rattle.std.proofs.lemmas.Bool.{cases_eq, true≢false}
+use Rattle.std.proofs.lemmas.Bool.{cases_Bool, cases_eq, true≢false}
 use Rattle.conley_field.specs.Arithmetic.{Arithmetic, IsField}
 use Rattle.conley_algebra.specs.Entries.{Vector, Entries, image_of}
 use Rattle.conley_algebra.specs.Homology.{combination, IsExpressed, IsRelativeCycle, IsRelativeBoundary, IsHomologyBasis}
 use Rattle.conley_algebra.proofs.SumLemmas as sums
 use Rattle.conley_homotopy.specs.Restriction.{IsClosedAround, own_boundary}
-
-bool_cases : (b : Bool) → (b ≡ true) ⊎ (b ≡ false)
-bool_cases true = inl refl
-bool_cases false = inr refl
 
 module _ {F : Arithmetic} (laws : IsField F) (n : ℕ) (d : Entries) (dim : ℕ → ℕ) (inside : ℕ → Bool) (closure mouth : ℕ → Type 0)
     (shape : IsClosedAround d inside closure mouth) (k r : ℕ) (z : ℕ → Vector) where
@@ -35,13 +31,13 @@ module _ {F : Arithmetic} (laws : IsField F) (n : ℕ) (d : Entries) (dim : ℕ 
   kept-outside v x h = ap (λ b. cond b (v x) 0) h
 
   kept-not_zero : (v : Vector) (x : ℕ) → kept v x ≢ 0 → (inside x ≡ true) × (v x ≢ 0)
-  kept-not_zero v x some = elim (bool_cases (inside x)) [
+  kept-not_zero v x some = elim (cases_Bool (inside x)) [
     | inl h ↦ (h, λ none. some (kept-inside v x h ∙ none))
     | inr h ↦ absurd (some (kept-outside v x h))
   ]
 
   kept-below : (v : Vector) → ((x : ℕ) → v x < F.order) → (x : ℕ) → kept v x < F.order
-  kept-below v codes x = elim (bool_cases (inside x)) [
+  kept-below v codes x = elim (cases_Bool (inside x)) [
     | inl h ↦ subst (λ (t : ℕ). t < F.order) (sym (kept-inside v x h)) (codes x)
     | inr h ↦ subst (λ (t : ℕ). t < F.order) (sym (kept-outside v x h)) (sums.zero_below laws)
   ]
@@ -56,7 +52,7 @@ module _ {F : Arithmetic} (laws : IsField F) (n : ℕ) (d : Entries) (dim : ℕ 
 
   -- on the set, the boundary of a chain on the closure is that of its part on the set, in either complex
   image-own : (v : Vector) → ((x : ℕ) → v x ≢ 0 → closure x) → (y : ℕ) → inside y ≡ true → image_of F n d v y ≡ image_of F n own (kept v) y
-  image-own v on y row = sums.sum_below-congr laws n _ _ (λ x below. elim (bool_cases (inside x)) [
+  image-own v on y row = sums.sum_below-congr laws n _ _ (λ x below. elim (cases_Bool (inside x)) [
     | inl h ↦ sym (ap (λ t. F.mul t (kept v x)) (own-inside y x row h) ∙ ap (F.mul (d y x)) (kept-inside v x h))
     | inr h ↦ term x h ∙ sym (ap (F.mul (own y x)) (kept-outside v x h) ∙ sums.mul-zero laws (own y x))
   ]) where
@@ -81,7 +77,7 @@ module _ {F : Arithmetic} (laws : IsField F) (n : ℕ) (d : Entries) (dim : ℕ 
   nothing v never x = elim (cases_eq (v x) 0) [ inl none ↦ none | inr some ↦ absurd (never x some) ]
 
   kept-kept : (v : Vector) → ((x : ℕ) → v x ≢ 0 → inside x ≡ true) → (x : ℕ) → kept v x ≡ v x
-  kept-kept v on x = elim (bool_cases (inside x)) [
+  kept-kept v on x = elim (cases_Bool (inside x)) [
     | inl h ↦ kept-inside v x h
     | inr h ↦ kept-outside v x h ∙ sym (elim (cases_eq (v x) 0) [ inl none ↦ none | inr some ↦ absurd (true≢false (sym (on x some) ∙ h)) ])
   ]
@@ -93,7 +89,7 @@ module _ {F : Arithmetic} (laws : IsField F) (n : ℕ) (d : Entries) (dim : ℕ 
     chain = record { codes = kept-below v c.chain.codes; only = λ x some. (kept-not_zero v x some).0 };
     on_mouth = record {
       codes = λ y. sums.sum_below-below laws n _;
-      only = λ y some. elim (bool_cases (inside y)) [
+      only = λ y some. elim (cases_Bool (inside y)) [
         | inr h ↦ some (image-own_outside (kept v) y h)
         | inl h ↦ true≢false (sym h ∙ shape.mouth_outside y (c.on_mouth.only y (λ none. some (sym (image-own v c.chain.only y h) ∙ none))))
       ];
@@ -107,7 +103,7 @@ module _ {F : Arithmetic} (laws : IsField F) (n : ℕ) (d : Entries) (dim : ℕ 
     chain = record { codes = c.chain.codes; only = on };
     on_mouth = record {
       codes = λ y. sums.sum_below-below laws n _;
-      only = λ y some. elim (bool_cases (inside y)) [
+      only = λ y some. elim (cases_Bool (inside y)) [
         | inr h ↦ shape.rest_mouth y (image-closure v on y some) h
         | inl h ↦ absurd (c.on_mouth.only y (λ none. some (image-own v on y h ∙ ap (λ (t : Vector). image_of F n own t y) (fun_ext (kept-kept v c.chain.only)) ∙ none)))
       ];
@@ -124,7 +120,7 @@ module _ {F : Arithmetic} (laws : IsField F) (n : ℕ) (d : Entries) (dim : ℕ 
     of_chain = record { codes = kept-below is.of is.of_chain.codes; only = λ x some. (kept-not_zero is.of x some).0 };
     part = λ x. 0;
     part_chain = record { codes = λ x. sums.zero_below laws; only = λ x some. some refl };
-    is = λ x. elim (bool_cases (inside x)) [
+    is = λ x. elim (cases_Bool (inside x)) [
       | inl h ↦
           kept-inside b x h ∙ is.is x ∙ ap (F.add (image_of F n d is.of x)) (no_part x h)
           ∙ ap (λ t. F.add t 0) (image-own is.of is.of_chain.only x h)
@@ -149,7 +145,7 @@ module _ {F : Arithmetic} (laws : IsField F) (n : ℕ) (d : Entries) (dim : ℕ 
       codes = e.codes;
       rest = kept e.rest;
       in_B = own_rest e.rest e.in_B;
-      is = λ x. elim (bool_cases (inside x)) [
+      is = λ x. elim (cases_Bool (inside x)) [
         | inl h ↦ kept-inside v x h ∙ e.is x ∙ ap (F.add (combination F r z a x)) (sym (kept-inside e.rest x h))
         | inr h ↦ kept-outside v x h ∙ sym (ap (λ t. F.add t (kept e.rest x)) (sum-outside a x h) ∙ ap (F.add 0) (kept-outside e.rest x h) ∙ sums.add_zero_zero laws)
       ];
@@ -192,7 +188,7 @@ module _ {F : Arithmetic} (laws : IsField F) (n : ℕ) (d : Entries) (dim : ℕ 
           ∙ laws.add_neg 0
 
       part-mouth : (x : ℕ) → part x ≢ 0 → mouth x
-      part-mouth x some = elim (bool_cases (inside x)) [
+      part-mouth x some = elim (cases_Bool (inside x)) [
         | inl h ↦ absurd (some (part-inside x h))
         | inr h ↦ shape.rest_mouth x (elim (cases_eq (v x) 0) [
           | inr other ↦ c.chain.only x other

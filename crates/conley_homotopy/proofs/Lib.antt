@@ -1,4 +1,6 @@
 pub mod ComposeLemmas
+pub mod ProjectorLemmas
+pub mod PairMapLemmas
 pub mod PairLemmas
 pub mod PairStepLemmas
 pub mod RestrictionLemmas

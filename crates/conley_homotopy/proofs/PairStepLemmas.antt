@@ -11,6 +11,7 @@ use Rattle.conley_homotopy.specs.Reduction.{IsPairStep}
 use Rattle.conley_algebra.proofs.MatrixLemmas.{entries_path, identity-same, identity-other, identity-end}
 use Rattle.conley_homotopy.proofs.ComposeLemmas as compose
 use Rattle.conley_algebra.proofs.OtherLemmas.{others, others-listing, others-beyond}
+use Rattle.conley_homotopy.proofs.ProjectorLemmas as projectors
 use Rattle.conley_homotopy.proofs.PairLemmas as pairs
 use Rattle.conley_algebra.specs.Listing.{IsListing}
 
@@ -150,7 +151,7 @@ module _ {F : Arithmetic} (laws : IsField F) {below : ℕ → ℕ → Type 0} (o
     ]
 
   no_term : (x : ℕ) → x < F.order → F.add x (F.neg 0) ≡ x
-  no_term x code = ap (F.add x) (pairs.neg-zero laws L.count) ∙ laws.add_zero x code
+  no_term x code = ap (F.add x) (projectors.neg-zero laws L.count) ∙ laws.add_zero x code
 
   pub step-IsPairStep : IsPairStep F below L K Q S (other K Q) m
   step-IsPairStep = record {

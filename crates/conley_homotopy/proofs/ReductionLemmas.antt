@@ -10,6 +10,8 @@ use Rattle.conley_algebra.proofs.MatrixLemmas as matrices
 use Rattle.conley_algebra.proofs.MatrixLemmas.{entries_path, identity-same, identity-other, identity-end}
 use Rattle.conley_homotopy.proofs.ComposeLemmas as compose
 use Rattle.conley_algebra.specs.Listing.{IsListing}
+use Rattle.conley_homotopy.proofs.ProjectorLemmas as projectors
+use Rattle.conley_homotopy.proofs.PairMapLemmas as pair_maps_of
 use Rattle.conley_homotopy.proofs.PairLemmas as pair
 use Rattle.conley_homotopy.specs.Reduction.{AreKept, IsReduction, IsPairStep}
 
@@ -58,8 +60,8 @@ module _ {F : Arithmetic} (laws : IsField F) {below : ℕ → ℕ → Type 0} (o
 
   pub identity-IsGradedEquivalence : (C : Generators) → IsGradedComplex F below C → IsGradedEquivalence F below C C (identity_maps C.count)
   identity-IsGradedEquivalence C complex = record {
-    phi_matrix = pair.identity-is_matrix laws C.count;
-    psi_matrix = pair.identity-is_matrix laws C.count;
+    phi_matrix = projectors.identity-is_matrix laws C.count;
+    psi_matrix = projectors.identity-is_matrix laws C.count;
     gamma_matrix = zero-is_matrix C.count C.count;
     gamma2_matrix = zero-is_matrix C.count C.count;
     phi_down = level;
@@ -84,7 +86,7 @@ module _ {F : Arithmetic} (laws : IsField F) {below : ℕ → ℕ → Type 0} (o
     )
 
     square : product_of F C.count (identity_of C.count) (identity_of C.count) ≡ identity_of C.count
-    square = matrices.identity-product laws C.count C.count (identity_of C.count) (pair.identity-is_matrix laws C.count)
+    square = matrices.identity-product laws C.count C.count (identity_of C.count) (projectors.identity-is_matrix laws C.count)
 
     nothing : (i j : ℕ) → plus_of F (product_of F C.count C.boundary zero_entries) (product_of F C.count zero_entries C.boundary) i j ≡ 0
     nothing i j =
@@ -94,7 +96,7 @@ module _ {F : Arithmetic} (laws : IsField F) {below : ℕ → ℕ → Type 0} (o
   pub identity-IsReduction : (C : Generators) → IsGradedComplex F below C → IsReduction F below C C (λ i. i) (identity_maps C.count)
   identity-IsReduction C complex = record {
     equivalence = identity-IsGradedEquivalence C complex;
-    strong = λ i j. ap (λ (e : Entries). e i j) (matrices.identity-product laws C.count C.count (identity_of C.count) (pair.identity-is_matrix laws C.count));
+    strong = λ i j. ap (λ (e : Entries). e i j) (matrices.identity-product laws C.count C.count (identity_of C.count) (projectors.identity-is_matrix laws C.count));
     no_gamma2 = λ i j. refl;
     are_kept = record { ascending = λ i j before within. before; within = λ i within. within; base = λ i within. refl; dim = λ i within. refl };
     phi_row = λ i within j. refl;
@@ -115,7 +117,7 @@ module _ {F : Arithmetic} (laws : IsField F) {below : ℕ → ℕ → Type 0} (o
       complex = pair.without_pair-IsGradedComplex laws order L complex K Q K_below Q_below differ unit K_under s list listing beyond;
       reduction = record {
         equivalence = pair.pair-IsGradedEquivalence laws order L complex K Q K_below Q_below differ unit K_under s list listing beyond;
-        strong = pair.pair-psi_phi laws L.count L.boundary complex.matrix squares K Q K_below Q_below differ unit s list listing beyond;
+        strong = pair_maps_of.pair-psi_phi laws L.count L.boundary complex.matrix squares K Q K_below Q_below differ unit s list listing beyond;
         no_gamma2 = λ i j. refl;
         are_kept = record {
           ascending = ascending;
@@ -123,13 +125,13 @@ module _ {F : Arithmetic} (laws : IsField F) {below : ℕ → ℕ → Type 0} (o
           base = λ i within. refl;
           dim = λ i within. refl;
         };
-        phi_row = λ i within j. pair.pair_phi-row laws L.count L.boundary complex.matrix squares K Q K_below Q_below differ unit s list listing beyond i j;
-        psi_column = λ i j within. pair.pair_psi-column laws L.count L.boundary complex.matrix squares K Q K_below Q_below differ unit s list listing beyond i j;
+        phi_row = λ i within j. pair_maps_of.pair_phi-row laws L.count L.boundary complex.matrix squares K Q K_below Q_below differ unit s list listing beyond i j;
+        psi_column = λ i j within. pair_maps_of.pair_psi-column laws L.count L.boundary complex.matrix squares K Q K_below Q_below differ unit s list listing beyond i j;
       };
       others = listing.holds;
       all = λ y within not_K not_Q. listing.all y within (not_K, not_Q);
-      entry = λ i j i_below j_below. pair.small_boundary-entry laws L.count L.boundary complex.matrix squares K Q K_below Q_below differ unit s list listing beyond i j;
-      psi_upper = pair.pair_psi-K laws L.count L.boundary complex.matrix squares K Q K_below Q_below differ unit s list listing beyond;
+      entry = λ i j i_below j_below. pair_maps_of.small_boundary-entry laws L.count L.boundary complex.matrix squares K Q K_below Q_below differ unit s list listing beyond i j;
+      psi_upper = pair_maps_of.pair_psi-K laws L.count L.boundary complex.matrix squares K Q K_below Q_below differ unit s list listing beyond;
     } where
       squares : product_of F L.count L.boundary L.boundary ≡ zero_entries
       squares = pair.dd laws order L complex K Q K_below Q_below differ unit K_under s list listing beyond
@@ -141,12 +143,12 @@ module _ {F : Arithmetic} (laws : IsField F) {below : ℕ → ℕ → Type 0} (o
 
       pub phi_after : (y j : ℕ) → (composed F L.count m maps).phi y j ≡ F.add (m.phi y (list j)) (F.neg (F.mul (m.phi y K) (F.mul (F.inv (L.boundary Q K)) (L.boundary Q (list j)))))
       unfolding squares
-      phi_after y j = pair.through_phi laws L.count L.boundary complex.matrix squares K Q K_below Q_below differ unit s list listing beyond A.count m.phi before.equivalence.phi_matrix y j
+      phi_after y j = pair_maps_of.through_phi laws L.count L.boundary complex.matrix squares K Q K_below Q_below differ unit s list listing beyond A.count m.phi before.equivalence.phi_matrix y j
 
       pub psi_after : (i x : ℕ) → (composed F L.count m maps).psi i x ≡ F.add (m.psi (list i) x) (F.neg (F.mul (F.mul (L.boundary (list i) K) (F.inv (L.boundary Q K))) (m.psi Q x)))
       unfolding squares
-      psi_after i x = pair.through_psi laws L.count L.boundary complex.matrix squares K Q K_below Q_below differ unit s list listing beyond A.count m.psi before.equivalence.psi_matrix i x
+      psi_after i x = pair_maps_of.through_psi laws L.count L.boundary complex.matrix squares K Q K_below Q_below differ unit s list listing beyond A.count m.psi before.equivalence.psi_matrix i x
 
       pub gamma_after : (y x : ℕ) → (composed F L.count m maps).gamma y x ≡ F.add (m.gamma y x) (F.mul (F.mul (m.phi y K) (F.inv (L.boundary Q K))) (m.psi Q x))
       unfolding squares
-      gamma_after y x = ap (F.add (m.gamma y x)) (pair.through_g laws L.count L.boundary complex.matrix squares K Q K_below Q_below differ unit m.phi m.psi y x)
+      gamma_after y x = ap (F.add (m.gamma y x)) (pair_maps_of.through_g laws L.count L.boundary complex.matrix squares K Q K_below Q_below differ unit m.phi m.psi y x)

@@ -1,7 +1,7 @@
 -- A graded equivalence, restricted to one grade, gives a basis of its homology.
 use Rattle.std.proofs.Common.{◌≡◌, ◌≢◌, ℕ, ◌<◌, Bool, true, false, cond, ap, sym, ◌∙◌, arith, refl, inl, inr, ◌⊎◌, subst}
 use mathlib.Core.Path.{fun_ext}
-use Rattle.std.proofs.lemmas.Bool.{cases_eq, true≢false}
+use Rattle.std.proofs.lemmas.Bool.{cases_Bool, cases_eq, true≢false}
 use Rattle.conley_field.specs.Arithmetic.{Arithmetic, IsField}
 use Rattle.conley_algebra.specs.Sum.{sum_below}
 use Rattle.conley_algebra.specs.Entries.{Vector, Entries, image_of, product_of, plus_of, identity_of}
@@ -15,10 +15,6 @@ use Rattle.conley_algebra.specs.Listing.{IsListing}
 use Rattle.conley_algebra.proofs.ImageLemmas.{term_zero, image-image, image-plus, image-congr, image-add, image-combination, image-not_zero, sum_by_list}
 use Rattle.conley_homotopy.specs.Restriction.{IsClassAround}
 use Rattle.conley_homotopy.proofs.ComposeLemmas as compose
-
-bool_cases : (b : Bool) → (b ≡ true) ⊎ (b ≡ false)
-bool_cases true = inl refl
-bool_cases false = inr refl
 
 module _ {F : Arithmetic} (laws : IsField F) {below : ℕ → ℕ → Type 0} (order : IsPreorder below) (L S : Generators) (m : Maps)
     (eq : IsGradedEquivalence F below L S m) (L_complex : IsGradedComplex F below L) (S_complex : IsGradedComplex F below S) (strict : IsStrict below S)
@@ -36,7 +32,7 @@ module _ {F : Arithmetic} (laws : IsField F) {below : ℕ → ℕ → Type 0} (o
   kept-outside v x h = ap (λ b. cond b (v x) 0) h
 
   in_or_out : (x : ℕ) → (inside x ≡ true) ⊎ (inside x ≡ false)
-  in_or_out x = bool_cases (inside x)
+  in_or_out x = cases_Bool (inside x)
 
   kept-not_zero : (v : Vector) (x : ℕ) → kept v x ≢ 0 → (inside x ≡ true) × (v x ≢ 0)
   kept-not_zero v x some = elim (in_or_out x) [

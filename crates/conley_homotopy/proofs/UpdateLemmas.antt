@@ -12,7 +12,8 @@ use Rattle.conley_algebra.proofs.SumLemmas as sums
 use Rattle.conley_algebra.proofs.MatrixLemmas as matrices
 use Rattle.conley_algebra.proofs.OtherLemmas.{others}
 use Rattle.conley_homotopy.proofs.PairStepLemmas.{row_within, column_within, step-IsGradedComplex}
-use Rattle.conley_homotopy.proofs.PairLemmas as pairs
+use Rattle.conley_homotopy.proofs.ProjectorLemmas as projectors
+use Rattle.conley_homotopy.proofs.PairMapLemmas as pair_maps_of
 
 -- the numbers of those before K
 pub other-under : (K Q : ℕ) → K ≢ Q → (j : ℕ) → j < K → (Q < K → j + 1 < K) → other K Q j < K
@@ -67,7 +68,7 @@ module _ {F : Arithmetic} (laws : IsField F) where
         ap (λ (e : Entries). e row j) (matrices.product-plus laws s phi (λ y j. identity_of s y (other k q j)) (λ y j. F.neg (cond (y == k) (F.mul (d q (other k q j)) (F.inv (d q k))) 0)))
         ∙ ap (λ (u : ℕ). F.add u (sum_below F s (λ z. F.mul (phi row z) (F.neg (cond (z == k) t 0))))) (ap (λ (e : Entries). e row x) (matrices.product-identity laws r s phi fits))
         ∙ ap (F.add (phi row x)) (sums.sum_below-single laws s (λ z. F.mul (phi row z) (F.neg (cond (z == k) t 0))) k k_below (laws.mul_below _ _)
-        (λ z z_below apart. ap (λ b. F.mul (phi row z) (F.neg (cond b t 0))) (ne_eqb z k apart) ∙ ap (F.mul (phi row z)) (pairs.neg-zero laws s) ∙ sums.mul-zero laws (phi row z))
+        (λ z z_below apart. ap (λ b. F.mul (phi row z) (F.neg (cond b t 0))) (ne_eqb z k apart) ∙ ap (F.mul (phi row z)) (projectors.neg-zero laws s) ∙ sums.mul-zero laws (phi row z))
         ∙ ap (λ b. F.mul (phi row k) (F.neg (cond b t 0))) (eq-eqb k k refl) ∙ sums.mul-neg laws (phi row k) t)
 
     -- row x of psi loses what the boundary of k has at x, times row q
@@ -80,7 +81,7 @@ module _ {F : Arithmetic} (laws : IsField F) where
         ap (λ (e : Entries). e i column) (matrices.plus-product laws s (λ i y. identity_of s (other k q i) y) (λ i y. F.neg (cond (y == q) (F.mul (F.inv (d q k)) (d (other k q i) k)) 0)) psi)
         ∙ ap (λ (u : ℕ). F.add u (sum_below F s (λ z. F.mul (F.neg (cond (z == q) t 0)) (psi z column)))) (ap (λ (e : Entries). e x column) (matrices.identity-product laws s c psi fits))
         ∙ ap (F.add (psi x column)) (sums.sum_below-single laws s (λ z. F.mul (F.neg (cond (z == q) t 0)) (psi z column)) q q_below (laws.mul_below _ _)
-        (λ z z_below apart. ap (λ b. F.mul (F.neg (cond b t 0)) (psi z column)) (ne_eqb z q apart) ∙ ap (λ u. F.mul u (psi z column)) (pairs.neg-zero laws s) ∙ sums.zero-mul laws (psi z column))
+        (λ z z_below apart. ap (λ b. F.mul (F.neg (cond b t 0)) (psi z column)) (ne_eqb z q apart) ∙ ap (λ u. F.mul u (psi z column)) (projectors.neg-zero laws s) ∙ sums.zero-mul laws (psi z column))
         ∙ ap (λ b. F.mul (F.neg (cond b t 0)) (psi q column)) (eq-eqb q q refl) ∙ sums.neg-mul laws t (psi q column))
 
     -- gamma gains column k of phi times row q of psi
@@ -90,7 +91,7 @@ module _ {F : Arithmetic} (laws : IsField F) where
     composed-gamma gamma phi psi row column =
         ap (F.add (gamma row column)) (sums.sum_below-single laws s (λ z. F.mul (product_of F s phi (gamma_entry F d k q) row z) (psi z column)) q q_below (laws.mul_below _ _)
         (λ z z_below apart. ap (λ u. F.mul u (psi z column)) (sums.sum_below-zero laws s (λ l. F.mul (phi row l) (gamma_entry F d k q l z))
-        (λ l l_below. ap (F.mul (phi row l)) (ap (λ b. cond ((l == k) && b) (F.inv (d q k)) 0) (ne_eqb z q apart) ∙ ap (λ b. cond b (F.inv (d q k)) 0) (pairs.and_false (l == k))) ∙ sums.mul-zero laws (phi row l)))
+        (λ l l_below. ap (F.mul (phi row l)) (ap (λ b. cond ((l == k) && b) (F.inv (d q k)) 0) (ne_eqb z q apart) ∙ ap (λ b. cond b (F.inv (d q k)) 0) (pair_maps_of.and_false (l == k))) ∙ sums.mul-zero laws (phi row l)))
         ∙ sums.zero-mul laws (psi z column))
         ∙ ap (λ u. F.mul u (psi q column)) (sums.sum_below-single laws s (λ l. F.mul (phi row l) (gamma_entry F d k q l q)) k k_below (laws.mul_below _ _)
         (λ l l_below apart. ap (λ b. F.mul (phi row l) (cond (b && (q == q)) (F.inv (d q k)) 0)) (ne_eqb l k apart) ∙ sums.mul-zero laws (phi row l))

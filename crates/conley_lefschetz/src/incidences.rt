@@ -1,6 +1,6 @@
 //! The first incidence with a fault, and the lists of direct faces.
 
-ghost use Rattle.std.specs.Prelude.{◌≡◌, ◌+◌, ◌<◌, ◌≤◌, ◌↔◌, ◌^◌, ℕ, None, [], OnOk, IfOk, length, map};
+ghost use Rattle.std.specs.Prelude.{◌≡◌, ◌+◌, ◌<◌, ◌≤◌, ◌↔◌, ◌^◌, ℕ, None, [], IfOk, length, map};
 ghost use Rattle.conley_walk.specs.Lists.{items_of, entries_of, ListedStep};
 ghost use Rattle.conley_lefschetz.specs.Listing.{triple_at, incidence_of};
 ghost use Rattle.conley_lefschetz.specs.Fault.{IsFault, StoodBefore};

@@ -1,6 +1,6 @@
 //! The refusal of two equal labels.
 
-ghost use Rattle.std.specs.Prelude.{◌≡◌, ◌<◌, ◌^◌, ℕ, [], ◌∷◌, IfOk, IsErrOf, length, string_bytes};
+ghost use Rattle.std.specs.Prelude.{◌≡◌, ◌<◌, ◌^◌, ℕ, IfOk, IsErrOf, length, string_bytes};
 ghost use Rattle.conley_lefschetz.specs.Listing.{bytes_of};
 ghost use Rattle.conley_lefschetz.specs.Fault.{IsDuplicate};
 ghost use Rattle.conley_lefschetz.specs.Making.{NumbersLabel, FindsDuplicate};

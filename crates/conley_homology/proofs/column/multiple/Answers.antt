@@ -1,4 +1,5 @@
-use Rattle.conley_homology.proofs.ColumnLemmas.{coefficient-below, clears}
+use Rattle.conley_chains.proofs.ChainLemmas.{coefficient-below}
+use Rattle.conley_homology.proofs.ColumnLemmas.{clears}
 use Rattle.conley_chains.specs.Chain.{coefficient}
 use Rattle.conley_homology.proofs.column.multiple.Goals as goal
 
