@@ -6,7 +6,7 @@
 --     AddsColumn F old target source by new      column target gained by times column source, and all other columns stay
 --     IsChainPart places es part                 part keeps at i what es keeps at the i-th place of a list
 --     IsMatrixPart rows columns m part           the same for listed rows and columns
-use Rattle.std.specs.Prelude.{◌≡◌, ℕ, ◌<◌, ◌≤◌, ◌==◌, List, length, slice_index, if◌then◌else◌}
+use Rattle.std.specs.Prelude.{◌≡◌, ℕ, ◌<◌, ◌==◌, List, length, slice_index, if◌then◌else◌}
 use Rattle.conley_field.specs.Arithmetic.{Arithmetic}
 use Rattle.conley_algebra.specs.Entries.{product_of, image_of}
 use Rattle.conley_chains.specs.Chain.{coefficient}

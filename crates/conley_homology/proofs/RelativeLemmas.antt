@@ -1,11 +1,11 @@
 -- The free cells' cycles are a basis of the homology of the set.
 use Rattle.std.proofs.Common.{◌≡◌, ◌≢◌, ◌⊎◌, inl, inr, ℕ, ◌+◌, ◌<◌, ◌≤◌, Bool, true, false, cond, List, [], length, get_or, ap, sym, ◌∙◌, arith, refl, subst, Option}
-use Rattle.std.specs.Prelude.{Contains, All, ◌↔◌}
+use Rattle.std.specs.Prelude.{Contains}
 use Rattle.std.proofs.lemmas.Bool.{cases_eq, cases_lt, true≢false}
 use Rattle.std.proofs.lemmas.List.{get_or_default}
 use Rattle.std.proofs.Math.ListN.{get_or-eq_default}
 use Rattle.conley_field.specs.Arithmetic.{Arithmetic, IsField}
-use Rattle.conley_algebra.specs.Entries.{Vector, Entries, product_of, zero_entries, SameEntries, OnlyWhere}
+use Rattle.conley_algebra.specs.Entries.{Entries, product_of, zero_entries, SameEntries, OnlyWhere}
 use Rattle.conley_algebra.proofs.SumLemmas as sums
 use Rattle.conley_homotopy.specs.Restriction.{IsClosedAround, own_boundary}
 use Rattle.conley_homotopy.proofs.ExcisionLemmas.{excision}
@@ -17,7 +17,7 @@ use Rattle.conley_faces.specs.Face.{IsCellList, IsInClosure, IsInMouth, IsLocall
 use Rattle.conley_homology.specs.Reduced.{IsFree}
 use Rattle.conley_homology.specs.Own.{is_listed, own_entries, place_in, owner_at, vector_at, IsOwnComplex, IsReducedSoFar}
 use Rattle.conley_lefschetz.specs.Listing.{dim_in}
-use Rattle.conley_lefschetz.specs.Conley.{IsRelativeCycle, IsRelativeBoundary, AreConleyNumbers}
+use Rattle.conley_lefschetz.specs.Conley.{IsRelativeCycle, IsRelativeBoundary}
 use Rattle.conley_homology.specs.Homology.{cycle_at, IsHomology}
 use Rattle.conley_lefschetz.specs.Complex.{IsComplex, Layout, IsLayout}
 use Rattle.conley_homology.proofs.PlaceLemmas.{is_listed-place, listed_place, place-distinct}

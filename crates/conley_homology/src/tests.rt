@@ -1,13 +1,15 @@
 ghost use Rattle.std.specs.Prelude.{◌≡◌, IfOk, length};
+ghost use Rattle.conley_faces.specs.Face.{IsCellList};
 
-use crate::relative;
+use crate::{Homology, relative};
 use conley_field::{Field, PrimeField, Scalar};
 use conley_lefschetz::Complex;
+use std::alloc::Global;
 use std::process::Abort;
 use std::test::Fail;
 
 /// A triangle with its edges and vertices over two elements; the triangle has number 6.
-fn triangle(rt: &impl Abort, alloc: std::alloc::Global) -> Result<Complex<PrimeField>, Fail>
+fn triangle(rt: &impl Abort, alloc: Global) -> Result<Complex<PrimeField>, Fail>
     ensures { IfOk result (λ c. length c.1.dims ≡ 7) }
 {
     let mut labels = Vec::new(alloc);
@@ -37,30 +39,44 @@ fn triangle(rt: &impl Abort, alloc: std::alloc::Global) -> Result<Complex<PrimeF
     Ok(complex)
 }
 
+/// The homology of cells that are found to be locally closed.
+fn homology_of(alloc: Global, complex: &Complex<PrimeField>, set: &[u32]) -> Result<Homology, Fail>
+    requires { IsCellList complex.now.1.faces set.now }
+{
+    if let Some(_gap) = complex.faces().find_gap(set) {
+        return Err("a gap".into());
+    }
+    Ok(relative(alloc, complex, set)?)
+}
+
 #[test]
-fn a_triangle_its_rim_and_its_inside(rt: HostRuntime) -> Result<(), Fail> {
-    let alloc = rt.alloc();
-    let complex = triangle(&rt, alloc)?;
-    let faces = complex.faces();
-    let whole = faces.closure(alloc, &[6])?;
-    assert!(rt; faces.find_gap(&whole).is_none());
-    let of_whole = relative(alloc, &complex, &whole)?;
-    assert_eq!(rt; of_whole.numbers.as_slice(), [1u32, 0, 0].as_slice());
-    assert_eq!(rt; of_whole.cycles.len(), 1);
-    let rim = faces.mouth(alloc, &[6])?;
-    assert!(rt; faces.find_gap(&rim).is_none());
-    let of_rim = relative(alloc, &complex, &rim)?;
-    assert_eq!(rt; of_rim.numbers.as_slice(), [1u32, 1, 0].as_slice());
-    assert_eq!(rt; of_rim.cycles.len(), 2);
-    assert!(rt; faces.find_gap(&[6]).is_none());
-    let of_inside = relative(alloc, &complex, &[6])?;
-    assert_eq!(rt; of_inside.numbers.as_slice(), [0u32, 0, 1].as_slice());
-    assert_eq!(rt; of_inside.cycles.len(), 1);
-    let cycle = of_inside.cycles[0].entries();
+fn a_triangle_with_its_faces_is_one_piece(rt: HostRuntime) -> Result<(), Fail> {
+    let complex = triangle(&rt, rt.alloc())?;
+    let set = complex.faces().closure(rt.alloc(), &[6])?;
+    let homology = homology_of(rt.alloc(), &complex, &set)?;
+    assert_eq!(rt; homology.numbers.as_slice(), [1u32, 0, 0].as_slice());
+    assert_eq!(rt; homology.cycles.len(), 1);
+    Ok(())
+}
+
+#[test]
+fn the_faces_of_a_triangle_are_a_ring(rt: HostRuntime) -> Result<(), Fail> {
+    let complex = triangle(&rt, rt.alloc())?;
+    let set = complex.faces().mouth(rt.alloc(), &[6])?;
+    let homology = homology_of(rt.alloc(), &complex, &set)?;
+    assert_eq!(rt; homology.numbers.as_slice(), [1u32, 1, 0].as_slice());
+    assert_eq!(rt; homology.cycles.len(), 2);
+    Ok(())
+}
+
+#[test]
+fn a_triangle_alone_is_its_own_cycle(rt: HostRuntime) -> Result<(), Fail> {
+    let complex = triangle(&rt, rt.alloc())?;
+    let homology = homology_of(rt.alloc(), &complex, &[6])?;
+    assert_eq!(rt; homology.numbers.as_slice(), [0u32, 0, 1].as_slice());
+    assert_eq!(rt; homology.cycles.len(), 1);
+    let cycle = homology.cycles[0].entries();
     assert_eq!(rt; cycle.len(), 1);
     assert_eq!(rt; (cycle[0].0, cycle[0].1.code()), (6, 1));
-    assert!(rt; faces.find_gap(&[]).is_none());
-    let of_nothing = relative(alloc, &complex, &[])?;
-    assert_eq!(rt; of_nothing.numbers.as_slice(), [0u32, 0, 0].as_slice());
     Ok(())
 }

@@ -1,4 +1,4 @@
-use Rattle.std.proofs.Common.{arith, ◌≡◌, ◌<◌, ◌^◌, ℕ, List, length, get_or, subst}
+use Rattle.std.proofs.Common.{arith, ◌≡◌, ℕ, List, length, get_or, subst}
 use Rattle.conley_lefschetz.specs.Listing.{dim_in}
 use Rattle.conley_lefschetz.proofs.ConleyLemmas.{one_length, regular_where_zero}
 use Rattle.conley_homology.specs.Reduced.{IsFree}
