@@ -11,7 +11,6 @@ mod turning;
 
 pub use digraph::Digraph;
 pub use error::DigraphError;
-pub use numbering::classes;
 
 /// Want of memory.
 pub type NoMemory = std::alloc::AllocError;

@@ -24,7 +24,7 @@ fn give_number(class_of: &mut [u32], there: &[bool], back: &[bool], number: u32)
 
 /// For each node the number of its class of mutual reach. Classes are numbered from 0 in the order of their least nodes.
 /// A search there and a search back are made for each class, and none is kept.
-pub fn classes(alloc: Global, steps: &[Vec<u32>]) -> Result<Vec<u32>, AllocError>
+pub(crate) fn classes(alloc: Global, steps: &[Vec<u32>]) -> Result<Vec<u32>, AllocError>
     requires digraph { IsDigraph (items_of steps.now) }
     requires count { length steps.now < 2 ^ 32 }
     ensures classes { IfOk result (λ class_of. AreClasses (items_of steps.now) class_of.items) }

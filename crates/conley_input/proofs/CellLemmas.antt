@@ -1,10 +1,10 @@
 -- The complex of a file: its scalars, its dimensions, and the cells directly under each cell.
-use Rattle.std.proofs.Common.{◌≡◌, ◌≢◌, ◌⊎◌, inl, inr, ◌+◌, ◌<◌, ◌≤◌, ℕ, ℤ, pos, negsuc, zero, suc, List, [], ◌∷◌, Bool, true, false, not, length, get_or, map, filter, refl, sym, ◌∙◌, subst, ap, arith, cond, lit<, All}
+use Rattle.std.proofs.Common.{◌≡◌, ◌≢◌, ◌⊎◌, inl, inr, ◌<◌, ◌≤◌, ℕ, ℤ, pos, negsuc, zero, suc, List, [], ◌∷◌, Bool, true, false, not, length, get_or, filter, refl, sym, ◌∙◌, subst, ap, arith, cond, lit<, All}
 use Rattle.std.specs.Prelude.{Contains, ◌↔◌, ◌==◌}
 use Rattle.std.specs.List.{range_with_len}
-use Rattle.std.proofs.lemmas.Bool.{cases_lt, cases_eq, false≢true}
+use Rattle.std.proofs.lemmas.Bool.{cases_lt, false≢true}
 use Rattle.std.proofs.lemmas.Bool.Decides.{nat_tests}
-use Rattle.std.proofs.lemmas.List.{get_or_default, length-map}
+use Rattle.std.proofs.lemmas.List.{get_or_default}
 use Rattle.std.proofs.lemmas.List.Elements.{All-map, Contains-push_cases, Contains-append_cases, Contains-append_left, Contains-append_right}
 use Rattle.std.proofs.lemmas.List.FromFn.{length-range_with_len, get_or-range_with_len, get_or-map-range_with_len, length-map-range_with_len}
 use Rattle.conley_field.specs.Arithmetic.{Arithmetic, IsField, ones, code_of_int}
@@ -13,12 +13,10 @@ use Rattle.conley_walk.specs.Lists.{ListedStep}
 use Rattle.conley_walk.proofs.ListLemmas.{Contains-none, step_begins}
 use Rattle.conley_lefschetz.specs.Listing.{incidence_of}
 use Rattle.conley_lefschetz.specs.Fault.{IsFault}
-use Rattle.conley_lefschetz.specs.Complex.{Layout, IsLayout, IsComplexOf}
-use Rattle.conley_lefschetz.specs.declared.error.ComplexError.{ComplexError}
-use Rattle.conley_lefschetz.specs.declared.error.ComplexError.TheVariants.{BadIncidence}
+use Rattle.conley_lefschetz.specs.Complex.{Layout, IsLayout}
 use Rattle.conley_lefschetz.proofs.ColumnLemmas.{incidence_of-cases}
 use Rattle.conley_lefschetz.proofs.FaceLemmas.{ends}
-use Rattle.conley_input.specs.Listing.{Listing, with_scalar, with_scalars, scalars_of, complex_of, direct_faces}
+use Rattle.conley_input.specs.Listing.{Listing, with_scalar, with_scalars, complex_of, direct_faces}
 use Rattle.conley_input.specs.Problem.{AreFacesOf}
 use Rattle.conley_input.specs.Refusals.{IsClear}
 use Rattle.conley_input.specs.declared.error.FileFault.TheVariants.{TooMany}

@@ -3,6 +3,7 @@ use Rattle.std.proofs.Common.{◌≡◌, inl, inr, ℕ, List, Result, Ok, Err, s
 use Rattle.std.specs.Prelude.{◌==◌, ◌↔◌, if◌then◌else◌, length}
 use Rattle.conley_first.proofs.FirstLemmas.{first-one}
 use Rattle.conley_walk.specs.Lists.{ListedStep}
+use Rattle.conley_mvf.specs.Partition.{ShareAPart, IsWhole}
 use Rattle.conley_input.specs.Listing.{Listing}
 use Rattle.conley_input.specs.Refusals.{number, place, Fails, PassesLimit}
 use Rattle.conley_input.specs.Problem.{Problem, ReadsForm, RefusesForm, Reads, Refuses, form_of}
@@ -64,18 +65,23 @@ not_refused_and_read bytes a problem refuses reads = not_both (form_of bytes) a 
 -- two problems that the bytes stand for differ at most in the order of direct faces
 pub record AreAlike (p q : Problem) : Type 0 where
   pub labels : p.complex.labels ≡ q.complex.labels
-  pub parts : p.parts ≡ q.parts
+  pub parts : (x y : ℕ) → ShareAPart p.part_of x y ↔ ShareAPart q.part_of x y
   pub count : length p.complex.faces ≡ length q.complex.faces
   pub steps : (x y : ℕ) → ListedStep p.complex.faces x y ↔ ListedStep q.complex.faces x y
+
+-- two partitions that are the lists and one part for each other cell
+whole_alike : (lists : List (List ℕ)) (p q : List ℕ) → length p ≡ length q → IsWhole lists p → IsWhole lists q → (x y : ℕ) → ShareAPart p x y → ShareAPart q x y
+whole_alike lists p q count a b x y s = (omega (arith, s.0, count), (omega (arith, s.1.0, count), sym ((b x y (omega (arith, s.0, count)) (omega (arith, s.1.0, count))).1 ((a x y s.0 s.1.0).0 (sym s.1.1)))))
 
 alike : (form : Result Listing FileFault) (p q : Problem) → ReadsForm form p → ReadsForm form q → AreAlike p q
 alike (Err r) p q a b = absurd a
 alike (Ok file) p q a b =
     let fp = a.stands.complex.faces in
     let fq = b.stands.complex.faces in
+    let cells : length p.part_of ≡ length q.part_of = a.stands.field.count ∙ fp.count ∙ sym (b.stands.field.count ∙ fq.count) in
     record {
       labels = a.stands.complex.complex.labels ∙ sym b.stands.complex.complex.labels;
-      parts = a.stands.parts ∙ sym b.stands.parts;
+      parts = λ x y. (whole_alike _ p.part_of q.part_of cells a.stands.parts b.stands.parts x y, whole_alike _ q.part_of p.part_of (sym cells) b.stands.parts a.stands.parts x y);
       count = fp.count ∙ sym fq.count;
       steps = λ x y. ((λ s. (fq.steps x y).1 ((fp.steps x y).0 s)), (λ s. (fp.steps x y).1 ((fq.steps x y).0 s)));
     }

@@ -1,16 +1,19 @@
 -- From the places of one number to all refusals.
-use Rattle.std.proofs.Common.{◌≡◌, ◌<◌, ◌≤◌, ℕ, List, [], ◌∷◌, inl, inr, length, get_or, refl, subst, arith}
+use Rattle.std.proofs.Common.{◌≡◌, ◌<◌, ◌≤◌, ◌+◌, ℕ, List, [], ◌∷◌, inl, inr, length, refl, subst, arith}
 use Rattle.std.proofs.lemmas.Bool.{cases_lt}
 use Rattle.conley_first.specs.First.{Precedes}
 use Rattle.conley_first.proofs.FirstLemmas.{clear-next, first-next}
 use Rattle.conley_lefschetz.specs.Fault as complex
 use Rattle.conley_lefschetz.specs.declared.error.ComplexError.{ComplexError}
 use Rattle.conley_lefschetz.specs.declared.error.ComplexError.TheVariants as complex_error
-use Rattle.conley_input.specs.Errors.{file_error}
-use Rattle.conley_input.specs.Listing.{Listing, scalars_of, complex_of}
-use Rattle.conley_input.specs.Refusals.{number, place, Fails, FailsAsComplex, IsFirstRefusal, IsClear}
+use Rattle.conley_mvf.specs.Fault as parts
+use Rattle.conley_mvf.specs.declared.error.PartError.{PartError}
+use Rattle.conley_mvf.specs.declared.error.PartError.TheVariants as part
+use Rattle.conley_input.specs.Errors.{file_error, part_error}
+use Rattle.conley_input.specs.Listing.{Listing, scalars_of, complex_of, direct_faces, parts_of}
+use Rattle.conley_input.specs.Refusals.{number, place, Fails, FailsAsComplex, FailsAsParts, IsFirstRefusal, IsClear}
 use Rattle.conley_input.specs.declared.error.FileFault.{FileFault}
-use Rattle.conley_input.specs.declared.error.FileFault.TheVariants.{TooMany, DuplicateLabel, BadIncidence, BadSimplex, BadAxes, BadCube, TooManyCells, NotBoundary, UnknownCell, RepeatedCell, EmptyPart, NotLocallyClosed}
+use Rattle.conley_input.specs.declared.error.FileFault.TheVariants.{NotJson, TooMany, DuplicateLabel, BadIncidence, BadSimplex, BadAxes, BadCube, TooManyCells, NotBoundary, UnknownCell, RepeatedCell, EmptyPart, NotLocallyClosed}
 use Rattle.conley_input.specs.declared.error.InputError.TheVariants.{Bad}
 
 -- a number in the place of another
@@ -86,35 +89,45 @@ module _ (file : Listing) where
   pub first_unknown : IsClear file 10 → (l' p' : ℕ) → Fails file (UnknownCell l' p') → ((l p : ℕ) → Precedes (l ∷ p ∷ []) (l' ∷ p' ∷ []) → ¬ Fails file (UnknownCell l p)) → IsFirstRefusal file (UnknownCell l' p')
   first_unknown before l' p' fails none = first-next number place (Fails file) 10 before (UnknownCell l' p') refl fails (of_unknown (λ a. Precedes a (l' ∷ p' ∷ [])) none)
 
-  of_repeated : (Q : List ℕ → Type 0) → ((l p : ℕ) → Q (l ∷ p ∷ []) → ¬ Fails file (RepeatedCell l p)) → (other : FileFault) → number other ≡ 11 → Q (place other) → ¬ Fails file other
-  of_repeated Q none (RepeatedCell l p) e q = none l p q
-  of_repeated Q none other e q = absurd (omega arith)
+-- what is refused is no want of memory
+pub part_not_memory : (error : PartError) (fault : FileFault) → part_error error ≡ Bad fault → error ≡ part.NoMemory → ⊥
+part_not_memory (part.Unknown l p) fault e same = cc
+part_not_memory (part.Repeated l p) fault e same = cc
+part_not_memory (part.EmptyPart k) fault e same = cc
+part_not_memory (part.Gap k x y z) fault e same = cc
+part_not_memory part.NoMemory fault e same = cc
 
-  pub clear_repeated : IsClear file 11 → ((l p : ℕ) → ¬ Fails file (RepeatedCell l p)) → IsClear file 12
-  clear_repeated before none = clear-next number place (Fails file) 11 before (λ other e. of_repeated (λ _. Unit {0}) (λ l p _. none l p) other e tt)
+module _ (file : Listing) (clear : IsClear file 11) where
+  -- parts without a fault refuse nothing
+  pub parts_accepted : ((error : PartError) → ¬ FailsAsParts file error) → (fault : FileFault) → ¬ Fails file fault
+  parts_accepted none (RepeatedCell l p) = none (part.Repeated l p)
+  parts_accepted none (EmptyPart k) = none (part.EmptyPart k)
+  parts_accepted none (NotLocallyClosed k x y z) = none (part.Gap k x y z)
+  parts_accepted none NotJson = clear.none NotJson (omega arith)
+  parts_accepted none fault = clear.none fault (omega arith)
 
-  pub first_repeated : IsClear file 11 → (l' p' : ℕ) → Fails file (RepeatedCell l' p') → ((l p : ℕ) → Precedes (l ∷ p ∷ []) (l' ∷ p' ∷ []) → ¬ Fails file (RepeatedCell l p)) → IsFirstRefusal file (RepeatedCell l' p')
-  first_repeated before l' p' fails none = first-next number place (Fails file) 11 before (RepeatedCell l' p') refl fails (of_repeated (λ a. Precedes a (l' ∷ p' ∷ [])) none)
+  -- what stands before a fault of parts, with the number that it has here and there
+  module _ (m m' : ℕ) (b : List ℕ) (shift : m ≡ m' + 9) (low : 11 ≤ m) (none : (error : PartError) → Precedes (parts.number error ∷ parts.place error) (m' ∷ b) → ¬ FailsAsParts file error) where
+    no_part_before : (other : FileFault) → Precedes (number other ∷ place other) (m ∷ b) → ¬ Fails file other
+    no_part_before (RepeatedCell l q) p = none (part.Repeated l q) (moved 11 m 2 m' (l ∷ q ∷ []) b (λ h. omega (arith, shift, h)) (λ h. omega (arith, shift, h)) p)
+    no_part_before (EmptyPart k) p = none (part.EmptyPart k) (moved 12 m 3 m' (k ∷ []) b (λ h. omega (arith, shift, h)) (λ h. omega (arith, shift, h)) p)
+    no_part_before (NotLocallyClosed k x y z) p = none (part.Gap k x y z) (moved 13 m 4 m' (k ∷ x ∷ y ∷ z ∷ []) b (λ h. omega (arith, shift, h)) (λ h. omega (arith, shift, h)) p)
+    no_part_before NotJson p = clear.none NotJson (omega arith)
+    no_part_before other p = clear.none other (omega arith)
 
-  of_empty : (Q : List ℕ → Type 0) → ((k : ℕ) → Q (k ∷ []) → ¬ Fails file (EmptyPart k)) → (other : FileFault) → number other ≡ 12 → Q (place other) → ¬ Fails file other
-  of_empty Q none (EmptyPart k) e q = none k q
-  of_empty Q none other e q = absurd (omega arith)
-
-  pub clear_empty : IsClear file 12 → ((k : ℕ) → (k < length file.parts) → (get_or file.parts k [] ≡ []) → ⊥) → IsClear file 13
-  clear_empty before none = clear-next number place (Fails file) 12 before (λ other e. of_empty (λ _. Unit {0}) (λ k _ f. none k f.0 f.1) other e tt)
-
-  pub first_empty : IsClear file 12 → (k' : ℕ) → Fails file (EmptyPart k') → ((k : ℕ) → k < k' → ¬ Fails file (EmptyPart k)) → IsFirstRefusal file (EmptyPart k')
-  first_empty before k' fails none = first-next number place (Fails file) 12 before (EmptyPart k') refl fails (of_empty (λ a. Precedes a (k' ∷ [])) (λ k p. elim p [ inl less ↦ none k less | inr both ↦ absurd both.1 ]))
-
-  of_gap : (Q : List ℕ → Type 0) → ((k x y z : ℕ) → Q (k ∷ x ∷ y ∷ z ∷ []) → ¬ Fails file (NotLocallyClosed k x y z)) → (other : FileFault) → number other ≡ 13 → Q (place other) → ¬ Fails file other
-  of_gap Q none (NotLocallyClosed k x y z) e q = none k x y z q
-  of_gap Q none other e q = absurd (omega arith)
-
-  pub clear_gap : IsClear file 13 → ((k x y z : ℕ) → ¬ Fails file (NotLocallyClosed k x y z)) → IsClear file 14
-  clear_gap before none = clear-next number place (Fails file) 13 before (λ other e. of_gap (λ _. Unit {0}) (λ k x y z _. none k x y z) other e tt)
-
-  pub first_gap : IsClear file 13 → (k' x' y' z' : ℕ) → Fails file (NotLocallyClosed k' x' y' z') → ((k x y z : ℕ) → Precedes (k ∷ x ∷ y ∷ z ∷ []) (k' ∷ x' ∷ y' ∷ z' ∷ []) → ¬ Fails file (NotLocallyClosed k x y z)) → IsFirstRefusal file (NotLocallyClosed k' x' y' z')
-  first_gap before k' x' y' z' fails none = first-next number place (Fails file) 13 before (NotLocallyClosed k' x' y' z') refl fails (of_gap (λ a. Precedes a (k' ∷ x' ∷ y' ∷ z' ∷ [])) none)
+  -- the first fault of parts whose cells are known is the first refusal
+  pub first_parts : ((l p : ℕ) → ¬ FailsAsParts file (part.Unknown l p)) → (error : PartError) → parts.IsFirstFault (direct_faces file) (parts_of file) error → (fault : FileFault) → part_error error ≡ Bad fault → IsFirstRefusal file fault
+  first_parts known (part.Unknown l p) first fault e = absurd (known l p first.holds)
+  first_parts known (part.Repeated l p) first fault e =
+      let same : RepeatedCell l p ≡ fault = cc in
+      subst (IsFirstRefusal file) same (record { holds = first.holds; first = no_part_before 11 2 (l ∷ p ∷ []) refl (omega arith) first.first })
+  first_parts known (part.EmptyPart k) first fault e =
+      let same : EmptyPart k ≡ fault = cc in
+      subst (IsFirstRefusal file) same (record { holds = first.holds; first = no_part_before 12 3 (k ∷ []) refl (omega arith) first.first })
+  first_parts known (part.Gap k x y z) first fault e =
+      let same : NotLocallyClosed k x y z ≡ fault = cc in
+      subst (IsFirstRefusal file) same (record { holds = first.holds; first = no_part_before 13 4 (k ∷ x ∷ y ∷ z ∷ []) refl (omega arith) first.first })
+  first_parts known part.NoMemory first fault e = absurd first.holds
 
 -- what the limits say where they aren't passed
 pub few_labels : (file : Listing) (n : ℕ) → 4 < n → IsClear file n → length file.labels ≤ 20000

@@ -6,5 +6,4 @@ pub mod Places
 pub mod ListingMeaning
 pub mod Problem
 pub mod Errors
-pub mod Marks
 pub mod ProblemMeaning

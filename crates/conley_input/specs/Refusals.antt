@@ -3,15 +3,17 @@
 --     number fault, place fault    where it stands among the refusals
 --     IsFirstRefusal file fault    it fails, and none that fails stands before it
 --     IsClear file n               none with a number below n fails
--- Labels, incidences and the boundary are refused as a complex is: those sentences are conley_lefschetz's.
-use Rattle.std.specs.Prelude.{◌↔◌, ◌≡◌, ◌⊎◌, ◌+◌, ◌<◌, ◌&&◌, ◌==◌, nat_lt, nat_le, not, ℕ, List, [], ◌∷◌, Bool, false, None, Any, length, slice_index, slice_index_or}
+-- Labels, incidences and the boundary are refused as a complex is, and parts as a partition is: those sentences are conley_lefschetz's and conley_mvf's.
+use Rattle.std.specs.Prelude.{◌≡◌, ◌⊎◌, ◌+◌, ◌<◌, ◌&&◌, ◌==◌, nat_lt, nat_le, not, ℕ, List, [], ◌∷◌, Bool, false, None, Any, length, slice_index_or}
 use Rattle.std.specs.List.{list_all}
 use Rattle.conley_field.specs.Prime.{is_prime_order}
 use Rattle.conley_first.specs.First as first
-use Rattle.conley_faces.specs.Face.{IsGap}
 use Rattle.conley_lefschetz.specs.Fault as complex
 use Rattle.conley_lefschetz.specs.declared.error.ComplexError.{ComplexError}
 use Rattle.conley_lefschetz.specs.declared.error.ComplexError.TheVariants as complex_error
+use Rattle.conley_mvf.specs.Fault as parts
+use Rattle.conley_mvf.specs.declared.error.PartError.{PartError}
+use Rattle.conley_mvf.specs.declared.error.PartError.TheVariants as part_error
 use Rattle.conley_input.specs.Listing.{Listing, scalars_of, complex_of, cell_of, parts_of, direct_faces}
 use Rattle.conley_input.specs.declared.error.FileFault.{FileFault}
 use Rattle.conley_input.specs.declared.error.FileFault.TheVariants.{NotJson, BadShape, NotBuilt, UnknownField, TooMany, BadLabel, DuplicateLabel, BadIncidence, BadSimplex, BadAxes, BadCube, TooManyCells, NotBoundary, UnknownCell, RepeatedCell, EmptyPart, NotLocallyClosed}
@@ -60,14 +62,6 @@ place (NotLocallyClosed k x y z) = k ∷ x ∷ y ∷ z ∷ []
 
 -- ---- words of the sentences
 
--- x stands in a list of lists at this list and place
-abbrev pub IsAt : List (List ℕ) → ℕ → ℕ → ℕ → Type 0
-IsAt lists list at x = (at < length (slice_index_or lists list [])) × (slice_index (slice_index_or lists list []) at ≡ x)
-
--- the number at this list and place stood at an earlier one
-abbrev pub StoodEarlier : List (List ℕ) → ℕ → ℕ → Type 0
-StoodEarlier lists list at = (l : ℕ) × (p : ℕ) × (x : ℕ) × IsAt lists list at x × IsAt lists l p x × first.Precedes (l ∷ p ∷ []) (list ∷ at ∷ [])
-
 -- no cell has the label at this list and place
 abbrev pub IsUnknown : List (List ℕ) → List (List (List ℕ)) → ℕ → ℕ → Type 0
 IsUnknown labels parts list at = (at < length (slice_index_or parts list [])) × (cell_of labels (slice_index_or (slice_index_or parts list []) at []) ≡ None)
@@ -94,6 +88,10 @@ is_label label = nat_lt 0 (length label) && list_all is_label_byte label
 abbrev pub FailsAsComplex : Listing → ComplexError → Type 0
 FailsAsComplex file error = complex.Fails (scalars_of file) (complex_of file) error
 
+-- the listed parts make no partition of its cells
+abbrev pub FailsAsParts : Listing → PartError → Type 0
+FailsAsParts file error = parts.Fails (direct_faces file) (parts_of file) error
+
 -- ---- the table
 
 -- those of the form, and those of generated cells, are no matter of a listing
@@ -105,9 +103,9 @@ Fails file (DuplicateLabel i j) = FailsAsComplex file (complex_error.DuplicateLa
 Fails file (BadIncidence k why) = FailsAsComplex file (complex_error.BadIncidence k why)
 Fails file (NotBoundary x z) = FailsAsComplex file (complex_error.NotBoundary x z)
 Fails file (UnknownCell list at) = IsUnknown file.labels file.parts list at
-Fails file (RepeatedCell list at) = StoodEarlier (parts_of file) list at
-Fails file (EmptyPart k) = (k < length file.parts) × (slice_index_or file.parts k [] ≡ [])
-Fails file (NotLocallyClosed k x y z) = IsGap (direct_faces file) (slice_index_or (parts_of file) k []) x y z
+Fails file (RepeatedCell list at) = FailsAsParts file (part_error.Repeated list at)
+Fails file (EmptyPart k) = FailsAsParts file (part_error.EmptyPart k)
+Fails file (NotLocallyClosed k x y z) = FailsAsParts file (part_error.Gap k x y z)
 Fails file NotJson = ⊥
 Fails file (BadShape member) = ⊥
 Fails file NotBuilt = ⊥

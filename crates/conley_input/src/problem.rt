@@ -16,14 +16,15 @@ use crate::parts::read_parts;
 use conley_field::AnyField;
 use conley_json::{JsonError, read_json};
 use conley_lefschetz::Complex;
+use conley_mvf::Partition;
 use serde_json::Value;
 use std::alloc::Global;
 
-/// A complex over a prime field, and the cells of each listed part, in the order of the file. A cell in no list is a part by itself.
+/// A complex over a prime field, and the parts of its cells: those that the file lists, and one for each other cell.
 #[derive(Drop)]
 pub struct Problem {
     pub complex: Complex<AnyField>,
-    pub parts: Vec<Vec<u32>>,
+    pub partition: Partition,
 }
 
 /// The bytes as a JSON value.
@@ -66,9 +67,10 @@ fn build(alloc: Global, listing: Listing) -> Result<Problem, InputError>
     ensures err { (fault : _) → IsErrOf result (InputError.Bad fault) → IsFirstRefusal (listed.meaning_of listing) fault }
 {
     let (complex, labels) = read_cells(alloc, listing)?;
-    let parts = read_parts(alloc, &complex, &labels)?;
+    let partition = read_parts(alloc, &complex, &labels)?;
     let _laws = complex.count();
-    Ok(Problem { complex, parts })
+    let _numbers = partition.count();
+    Ok(Problem { complex, partition })
 }
 
 impl Problem {

@@ -1,9 +1,8 @@
 -- The lists of faces, as the incidences stand, and where none of them has a fault.
-use Rattle.std.proofs.Common.{◌≡◌, ◌⊎◌, inl, inr, ◌+◌, ◌<◌, ◌≤◌, ℕ, List, [], ◌∷◌, ◌++◌, length, get_or, refl, sym, subst, ap, arith, ◌-◌, suc}
+use Rattle.std.proofs.Common.{◌≡◌, ◌⊎◌, inl, inr, ◌+◌, ◌<◌, ◌≤◌, ℕ, List, length, get_or, refl, sym, subst, ap, arith}
 use Rattle.std.specs.Prelude.{◌↔◌}
 use Rattle.std.proofs.lemmas.Bool.{cases_lt, cases_eq, cases_order}
-use Rattle.std.proofs.lemmas.List.{get_or_default, get_or_append_left, get_or-append-add, length-append}
-use Rattle.conley_walk.specs.Lists.{ListedStep, PutsUnder, IsDigraph, entries_of, IsFirstOutOfRange}
+use Rattle.conley_walk.specs.Lists.{ListedStep, PutsUnder}
 use Rattle.conley_walk.proofs.WalkLemmas.{reaches_least}
 use Rattle.conley_faces.specs.Face.{IsBelowItself}
 use Rattle.conley_lefschetz.specs.Listing.{triple_at, dim_in}
@@ -48,17 +47,3 @@ module _ (dims : List ℕ) (incidences : List (ℕ × ℕ × ℕ)) (clear : (k w
   no_cycle lists only x b =
       let down : get_or dims x 0 ≤ get_or dims b.0 0 = reaches_least (λ q. get_or dims q 0 ≤ get_or dims b.0 0) (λ p q s le. omega (arith, one_down p q (only p q s), le)) b.2 (omega arith) in
       omega (arith, down, one_down x b.0 (only x b.0 b.1))
-
--- each entry is that of a list
-entry_in : (n : ℕ) (lists : List (List ℕ)) → ((x y : ℕ) → ListedStep lists x y → y < n) → (k : ℕ) → k < length (entries_of lists) → get_or (entries_of lists) k 0 < n
-entry_in n [] below k lt = absurd (omega arith)
-entry_in n (xs ∷ rest) below k lt = elim (cases_lt k (length xs)) [
-  | inl here ↦ omega (arith, get_or_append_left xs (entries_of rest) 0 k here, below 0 (get_or xs k 0) (k, here, get_or_default xs k (get_or xs k 0) 0 here))
-  | inr later ↦
-      let lt' : k - length xs < length (entries_of rest) = omega (arith, lt, length-append xs (entries_of rest)) in
-      let e : length xs + (k - length xs) ≡ k = omega arith in
-      omega (arith, entry_in n rest (λ x y s. below (suc x) y s) (k - length xs) lt', get_or-append-add xs (entries_of rest) (k - length xs) 0, ap (λ i. get_or (xs ++ entries_of rest) i 0) e)
-]
-
-pub no_range : (lists : List (List ℕ)) → IsDigraph lists → (k : ℕ) → ¬ IsFirstOutOfRange lists k
-no_range lists digraph k r = omega (arith, r.out_of_range, entry_in (length lists) lists digraph k r.is_entry)

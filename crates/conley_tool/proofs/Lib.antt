@@ -1,7 +1,5 @@
 pub mod PieceLemmas
 pub mod DueLemmas
-pub mod StepLemmas
-pub mod CycleLemmas
 pub mod ClassLemmas
 pub mod LineLemmas
 pub mod OneDueLemmas

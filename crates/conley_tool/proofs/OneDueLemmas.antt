@@ -10,7 +10,8 @@ use Rattle.conley_walk.proofs.WalkLemmas.{reaches_itself, reaches_on, reaches_by
 use Rattle.conley_walk.proofs.WalkLemmas.{reaches_more}
 use Rattle.conley_input.specs.Problem.{Problem}
 use Rattle.conley_input.proofs.OnceLemmas.{AreAlike, refused_once, not_refused_and_read, read_alike}
-use Rattle.conley_tool.specs.Recurrence.{Step, AreRecurrent, AreRecurrenceClasses}
+use Rattle.conley_transitions.specs.Field.{AreRecurrent}
+use Rattle.conley_tool.specs.Recurrence.{StepsOf, AreRecurrenceClasses}
 use Rattle.conley_tool.specs.Texts.{IsClassesText, lines_of}
 use Rattle.conley_tool.specs.Words.{Command, classes}
 use Rattle.conley_tool.specs.Headline.{Due, refused, prints, Fetched, held, ends, fetched, AfterFetch, AfterProblem, PrintsClasses, IsDue}
@@ -19,18 +20,18 @@ use Rattle.conley_tool.specs.declared.outcome.Fault.TheVariants.{File}
 
 -- alike problems have the same steps, so the same reach
 module _ (p q : Problem) (same : AreAlike p q) where
-  step_alike : (x y : ℕ) → Step p x y → Step q x y
+  step_alike : (x y : ℕ) → StepsOf p x y → StepsOf q x y
   step_alike x y (inl f) = inl (record { cell = omega (arith, f.cell, same.count); walk = reaches_more {Step = ListedStep p.complex.faces} {Other = ListedStep q.complex.faces} (λ a b. (same.steps a b).0) f.walk })
-  step_alike x y (inr s) = inr (s.0, subst (λ ps. ListedStep ps s.0 x) same.parts s.1, subst (λ ps. ListedStep ps s.0 y) same.parts s.2)
+  step_alike x y (inr s) = inr ((same.parts x y).0 s)
 
-  reach_alike : (x y : ℕ) → Reaches (Step p) x y → Reaches (Step q) x y
-  reach_alike x y r = reaches_least (Reaches (Step q) x) (λ a b s t. reaches_on t (reaches_by_step {Step = Step q} {x = a} {y = b} (step_alike a b s))) r (reaches_itself x)
+  reach_alike : (x y : ℕ) → Reaches (StepsOf p) x y → Reaches (StepsOf q) x y
+  reach_alike x y r = reaches_least (Reaches (StepsOf q) x) (λ a b s t. reaches_on t (reaches_by_step {Step = StepsOf q} {x = a} {y = b} (step_alike a b s))) r (reaches_itself x)
 
-  pub recurrent_alike : (x y : ℕ) → AreRecurrent p x y → AreRecurrent q x y
+  pub recurrent_alike : (x y : ℕ) → AreRecurrent (StepsOf p) x y → AreRecurrent (StepsOf q) x y
   recurrent_alike x y r = record { there = reach_alike x y r.there; back = reach_alike y x r.back }
 
 pub alike_back : (p q : Problem) → AreAlike p q → AreAlike q p
-alike_back p q same = record { labels = sym same.labels; parts = sym same.parts; count = sym same.count; steps = λ x y. ((same.steps x y).1, (same.steps x y).0) }
+alike_back p q same = record { labels = sym same.labels; parts = λ x y. ((same.parts x y).1, (same.parts x y).0); count = sym same.count; steps = λ x y. ((same.steps x y).1, (same.steps x y).0) }
 
 -- the numbers of two numberings agree, cell by cell
 module _ (p q : Problem) (same : AreAlike p q) (c d : List ℕ) (cs : AreRecurrenceClasses p c) (ds : AreRecurrenceClasses q d) where

@@ -1,6 +1,5 @@
 pub mod Words
 pub mod Recurrence
-pub mod Steps
 pub mod Texts
 pub mod Members
 pub mod Line

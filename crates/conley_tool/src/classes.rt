@@ -8,10 +8,9 @@ ghost use Rattle.conley_tool.specs.Members.{AreMembers};
 ghost use Rattle.conley_tool.specs.Recurrence.{AreRecurrenceClasses};
 ghost use Rattle.conley_tool.specs.Texts.{IsClassesText};
 
-use crate::steps::steps_of;
 use crate::text::push_line;
-use conley_digraph::classes;
 use conley_input::Problem;
+use conley_transitions::transitions;
 use conley_walk::put_under;
 use std::alloc::{AllocError, Global};
 
@@ -23,9 +22,9 @@ fn class_numbers(alloc: Global, problem: &Problem) -> Result<Vec<u32>, AllocErro
     ensures low { IfOk result (λ class_of. (x : ℕ) → x < length class_of.items → slice_index class_of.items x ≤ x) }
 {
     let faces = problem.complex.faces();
-    let _order = faces.count();
-    let steps = steps_of(alloc, faces, &problem.parts)?;
-    let class_of = classes(alloc, &steps)?;
+    let digraph = transitions(alloc, faces, &problem.partition)?;
+    let _nodes = digraph.count();
+    let class_of = digraph.classes(alloc)?;
     Ok(class_of)
 }
 

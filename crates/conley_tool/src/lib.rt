@@ -10,7 +10,6 @@ mod outcome;
 mod put;
 mod refusal;
 mod report;
-mod steps;
 mod text;
 mod top;
 mod words;

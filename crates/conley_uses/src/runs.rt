@@ -386,21 +386,32 @@ fn a_file_has_at_most_64_mebibytes(rt: HostRuntime) -> Result<(), Fail> {
     Ok(())
 }
 
+/// Puts items for each number below a count: the text before it, the number, and the text after it, with commas between.
+fn push_items(
+    file: &mut Vec<u8>,
+    before: &[u8],
+    count: u32,
+    after: &[u8],
+) -> Result<(), AllocError> {
+    let mut digits = itoa::Buffer::new();
+    for k in 0..count {
+        if k > 0 {
+            file.push(b',')?;
+        }
+        file.extend_from_slice(before)?;
+        file.extend_from_slice(digits.format(k).as_bytes())?;
+        file.extend_from_slice(after)?;
+    }
+    Ok(())
+}
+
 /// The file of this many vertices without parts.
 fn points(alloc: Global, count: u32) -> Result<Vec<u8>, AllocError> {
     let mut file = Vec::from_slice(
         alloc,
         b"{\"version\":1,\"scalars\":2,\"field\":{\"kind\":\"whole\",\"parts\":[]},\"complex\":{\"kind\":\"lefschetz\",\"incidences\":[],\"cells\":[",
     )?;
-    let mut digits = itoa::Buffer::new();
-    for k in 0..count {
-        if k > 0 {
-            file.push(b',')?;
-        }
-        file.extend_from_slice(b"[\"c")?;
-        file.extend_from_slice(digits.format(k).as_bytes())?;
-        file.extend_from_slice(b"\",0]")?;
-    }
+    push_items(&mut file, b"[\"c", count, b"\",0]")?;
     file.extend_from_slice(b"]}}")?;
     Ok(file)
 }
@@ -420,5 +431,53 @@ fn a_file_lists_at_most_20_000_cells(rt: HostRuntime) -> Result<(), Fail> {
         let lines = out.written().iter().filter(|b| **b == b'\n').count();
         assert_eq!(rt; lines, if status == 0 { 20_000 } else { 0 });
     }
+    Ok(())
+}
+
+/// The file of a ring of 10,000 vertices and edges. Each vertex is in one part with the edge after it.
+fn ring(alloc: Global) -> Result<Vec<u8>, AllocError> {
+    let mut file = Vec::from_slice(
+        alloc,
+        b"{\"version\":1,\"scalars\":2,\"complex\":{\"kind\":\"lefschetz\",\"cells\":[",
+    )?;
+    push_items(&mut file, b"[\"v", 10_000, b"\",0]")?;
+    file.push(b',')?;
+    push_items(&mut file, b"[\"e", 10_000, b"\",1]")?;
+    file.extend_from_slice(b"],\"incidences\":[")?;
+    let mut digits = itoa::Buffer::new();
+    for k in 0..10_000 {
+        for vertex in [k, if k < 9_999 { k + 1 } else { 0 }] {
+            file.extend_from_slice(if k == 0 && vertex == 0 { b"[" } else { b",[" })?;
+            file.extend_from_slice(digits.format(k + 10_000).as_bytes())?;
+            file.push(b',')?;
+            file.extend_from_slice(digits.format(vertex).as_bytes())?;
+            file.extend_from_slice(b",1]")?;
+        }
+    }
+    file.extend_from_slice(b"]},\"field\":{\"kind\":\"whole\",\"parts\":[")?;
+    for k in 0..10_000 {
+        file.extend_from_slice(if k == 0 { b"[\"v" } else { b",[\"v" })?;
+        file.extend_from_slice(digits.format(k).as_bytes())?;
+        file.extend_from_slice(b"\",\"e")?;
+        file.extend_from_slice(digits.format(k).as_bytes())?;
+        file.extend_from_slice(b"\"]")?;
+    }
+    file.extend_from_slice(b"]}}")?;
+    Ok(file)
+}
+
+#[test]
+fn a_ring_is_one_line(rt: HostRuntime) -> Result<(), Fail> {
+    let alloc = rt.alloc();
+    let words = words_of(alloc, &["classes", "f"])?;
+    let mut depot = MemoryDepot::new(alloc);
+    depot.add("f", &ring(alloc)?)?;
+    let mut out = MemorySink::new(alloc, 1_000_000, 1_000_000, None)?;
+    let mut err = MemorySink::new(alloc, 100, 100, None)?;
+    let outcome = run(alloc, &words, &mut depot, &mut out, &mut err);
+    assert_eq!(rt; outcome.status(), 0);
+    let text = out.written();
+    assert_eq!(rt; text.iter().filter(|b| **b == b'\n').count(), 1);
+    assert_eq!(rt; text.iter().filter(|b| **b == b' ').count(), 19_999);
     Ok(())
 }

@@ -1,17 +1,17 @@
-use Rattle.std.proofs.Common.{arith, ◌≡◌, ℕ, List, [], Vec, String, Some, None, Err, map, length, get_or, ap, sym, ◌∙◌, subst}
-use Rattle.std.specs.declared.alloc.Global.{Global}
-use Rattle.std.proofs.lemmas.List.{length-map}
+use Rattle.std.proofs.Common.{arith, ◌≡◌, ◌<◌, ℕ, List, Err, map, length, refl, ap, sym, ◌∙◌, subst}
 use Rattle.std.proofs.lemmas.Result.{err_from_is_err_and}
-use Rattle.conley_walk.specs.Lists.{items_of}
+use Rattle.conley_walk.specs.Lists.{items_of, ListedStep}
+use Rattle.conley_mvf.specs.Fault as parts
+use Rattle.conley_mvf.specs.Partition.{IsWhole}
 use Rattle.conley_lefschetz.specs.Complex.{Layout}
-use Rattle.conley_input.specs.Listing.{Listing, numbers_of, parts_of}
+use Rattle.conley_input.specs.Errors.{part_error}
+use Rattle.conley_input.specs.Listing.{Listing, numbers_of, parts_of, direct_faces}
 use Rattle.conley_input.specs.Meaning.{texts}
-use Rattle.conley_input.specs.Places.{FindsFirstPlace}
 use Rattle.conley_input.specs.Problem.{IsListedAs}
-use Rattle.conley_input.specs.Refusals.{IsFirstRefusal, IsClear}
-use Rattle.conley_input.specs.declared.error.FileFault.TheVariants.{EmptyPart}
+use Rattle.conley_input.specs.Refusals.{IsFirstRefusal}
 use Rattle.conley_input.specs.declared.error.InputError.TheVariants as InputError
-use Rattle.conley_input.proofs.PartLemmas.{accepted, unknown_first, known, distinct, filled, closed, repeated_first, empty_first, gap_first}
+use Rattle.conley_input.proofs.PartLemmas.{known, unknown_first, listed_fails, first_listed, none_unknown, length-direct_faces}
+use Rattle.conley_input.proofs.RefusalLemmas.{parts_accepted, first_parts, part_not_memory}
 use Rattle.conley_input.proofs.parts.read_parts.Goals as goal
 
 -- the lists are those of the file
@@ -26,71 +26,30 @@ returns-in_err-lists-clause-err c = λ file is clear fault e.
     let found = c.in_err-lists.ensures.err fault (ap (λ x. Err x) same) in
     subst (IsFirstRefusal file) (sym found.2) (unknown_first file c.args.complex.now.1 (map texts c.args.parts.now) is clear found.0 found.1 found.3)
 
-pub refuse_repeats-requires : goal.refuse_repeats-requires
-refuse_repeats-requires c = rw (c.deref.ensures.value, c.count.ensures.count) c.in_ok-lists.ensures.within
-
--- the steps between the refusals
-module _ (file : Listing) (layout : Layout) (parts : List (Vec (String Global) Global)) (lists : List (List ℕ)) (is : IsListedAs file layout (map texts parts)) (are : lists ≡ parts_of file) (clear : IsClear file 10) where
-  after_empty : IsClear file 12 → FindsFirstPlace (length parts) (λ k. get_or (map texts parts) k [] ≡ []) None → IsClear file 13
-  after_empty before none = filled file layout (map texts parts) lists is are clear before (subst (λ n. FindsFirstPlace n (λ k. get_or (map texts parts) k [] ≡ []) None) (sym (length-map parts texts)) none)
-
-  at_empty : IsClear file 12 → (k : ℕ) → FindsFirstPlace (length parts) (λ k. get_or (map texts parts) k [] ≡ []) (Some k) → IsFirstRefusal file (EmptyPart k)
-  at_empty before k found = empty_first file layout (map texts parts) lists is are clear before k (subst (λ n. FindsFirstPlace n (λ k. get_or (map texts parts) k [] ≡ []) (Some k)) (sym (length-map parts texts)) found)
-
-pub returns-in_err-refuse_repeats-clause-err : goal.returns-in_err-refuse_repeats-clause-err
-returns-in_err-refuse_repeats-clause-err c = λ file is clear fault e.
-    let p = err_from_is_err_and c.from_residual-in_err-refuse_repeats.result c.from_residual-in_err-refuse_repeats.ensures.1 in
-    let q = rw (p.1, p.2) at e in
-    let same : c.in_err-refuse_repeats.field-0.0 ≡ InputError.Bad fault = cc in
-    let found = rw c.deref.ensures.value at (c.in_err-refuse_repeats.ensures.err fault (ap (λ x. Err x) same)) in
+pub returns-in-Ok-clause-ok : goal.returns-in-Ok-clause-ok
+returns-in-Ok-clause-ok c = λ file is clear.
     let layout = c.args.complex.now.1 in
     let labels = map texts c.args.parts.now in
-    let lists = items_of c.in_ok-lists.lists.items in
+    let lists : List (List ℕ) = items_of c.in_ok-lists.lists.items in
     let are = numbered file layout labels lists is c.in_ok-lists.ensures.ok in
-    let clear_11 = known file layout labels lists is are clear c.in_ok-lists.ensures.known in
-    subst (IsFirstRefusal file) (sym found.2) (repeated_first file layout labels lists is are clear clear_11 found.0 found.1 found.3)
+    let clear_11 = known file layout labels is clear c.in_ok-lists.ensures.known in
+    let none = rw (c.deref-2.ensures.value, c.faces.ensures.faces) at c.in-Ok.ensures.accepted in
+    let whole = rw c.deref-2.ensures.value at c.in-Ok.ensures.parts in (
+      parts_accepted file clear_11 (λ error f. none error (listed_fails file layout.faces is.faces lists error (subst (λ ls. parts.Fails (direct_faces file) ls error) (sym are) f))),
+      subst (λ ls. IsWhole ls c.in-Ok.partition) are whole,
+    )
 
-pub returns-in_err-refuse_empty-clause-err : goal.returns-in_err-refuse_empty-clause-err
-returns-in_err-refuse_empty-clause-err c = λ file is clear fault e.
-    let p = err_from_is_err_and c.from_residual-in_err-refuse_empty.result c.from_residual-in_err-refuse_empty.ensures.1 in
-    let q = rw (p.1, p.2) at e in
-    let same : c.in_err-refuse_empty.field-0.0 ≡ InputError.Bad fault = cc in
-    let found = c.in_err-refuse_empty.ensures.err fault (ap (λ x. Err x) same) in
+pub returns-clause-err : goal.returns-clause-err
+returns-clause-err c = λ file is clear fault e.
     let layout = c.args.complex.now.1 in
     let labels = map texts c.args.parts.now in
-    let lists = items_of c.in_ok-lists.lists.items in
+    let lists : List (List ℕ) = items_of c.in_ok-lists.lists.items in
+    let error = c.in-Err.error in
+    let same : part_error error ≡ InputError.Bad fault = cc in
     let are = numbered file layout labels lists is c.in_ok-lists.ensures.ok in
-    let clear_11 = known file layout labels lists is are clear c.in_ok-lists.ensures.known in
-    let clear_12 = distinct file layout labels lists is are clear clear_11 (rw c.deref.ensures.value at c.in_ok-refuse_repeats.ensures.ok) in
-    subst (IsFirstRefusal file) (sym found.1) (at_empty file layout c.args.parts.now lists is are clear clear_12 found.0 found.2)
-
-pub refuse_gaps-requires : goal.refuse_gaps-requires
-refuse_gaps-requires c = rw (c.deref-2.ensures.value, c.faces.ensures.faces)
-    (λ k x s. omega (arith, c.in_ok-lists.ensures.within k x s, c.faces.ensures.laws.complex.faces_count, c.faces.ensures.laws.complex.dims_count))
-
-pub returns-in_err-refuse_gaps-clause-err : goal.returns-in_err-refuse_gaps-clause-err
-returns-in_err-refuse_gaps-clause-err c = λ file is clear fault e.
-    let p = err_from_is_err_and c.from_residual-in_err-refuse_gaps.result c.from_residual-in_err-refuse_gaps.ensures.1 in
-    let q = rw (p.1, p.2) at e in
-    let same : c.in_err-refuse_gaps.field-0.0 ≡ InputError.Bad fault = cc in
-    let found = rw (c.deref-2.ensures.value, c.faces.ensures.faces) at (c.in_err-refuse_gaps.ensures.err fault (ap (λ x. Err x) same)) in
-    let layout = c.args.complex.now.1 in
-    let labels = map texts c.args.parts.now in
-    let lists = items_of c.in_ok-lists.lists.items in
-    let are = numbered file layout labels lists is c.in_ok-lists.ensures.ok in
-    let clear_11 = known file layout labels lists is are clear c.in_ok-lists.ensures.known in
-    let clear_12 = distinct file layout labels lists is are clear clear_11 (rw c.deref.ensures.value at c.in_ok-refuse_repeats.ensures.ok) in
-    let clear_13 = after_empty file layout c.args.parts.now lists is are clear clear_12 c.in_ok-refuse_empty.ensures.ok in
-    subst (IsFirstRefusal file) (sym found.4) (gap_first file layout labels lists is are clear clear_13 found.0 found.1 found.2 found.3 found.5)
-
-pub returns-clause-ok : goal.returns-clause-ok
-returns-clause-ok c = λ file is clear.
-    let layout = c.args.complex.now.1 in
-    let labels = map texts c.args.parts.now in
-    let lists = items_of c.in_ok-lists.lists.items in
-    let are = numbered file layout labels lists is c.in_ok-lists.ensures.ok in
-    let clear_11 = known file layout labels lists is are clear c.in_ok-lists.ensures.known in
-    let clear_12 = distinct file layout labels lists is are clear clear_11 (rw c.deref.ensures.value at c.in_ok-refuse_repeats.ensures.ok) in
-    let clear_13 = after_empty file layout c.args.parts.now lists is are clear clear_12 c.in_ok-refuse_empty.ensures.ok in
-    let clear_14 = closed file layout labels lists is are clear clear_13 (rw (c.deref-2.ensures.value, c.faces.ensures.faces) at c.in_ok-refuse_gaps.ensures.ok) in
-    (accepted file clear_14, are)
+    let clear_11 = known file layout labels is clear c.in_ok-lists.ensures.known in
+    let first = rw (c.deref-2.ensures.value, c.faces.ensures.faces) at (c.in-Err.ensures.err error refl (part_not_memory error fault same)) in
+    let listed = subst (λ ls. parts.IsFirstFault (direct_faces file) ls error) are (first_listed file layout.faces is.faces lists error first) in
+    let within = subst (λ ls. (k x : ℕ) → ListedStep ls k x → x < length layout.dims) are c.in_ok-lists.ensures.within in
+    let cells : length layout.dims ≡ length (direct_faces file) = omega (arith, is.faces.count, length-direct_faces file layout.faces is.faces, c.faces.ensures.laws.complex.dims_count, c.faces.ensures.laws.complex.faces_count) in
+    first_parts file clear_11 (none_unknown (length (direct_faces file)) (parts_of file) (λ k x s. omega (arith, within k x s, cells))) error listed fault same

@@ -17,9 +17,9 @@ pub returns-clause-ok : goal.returns-clause-ok
 returns-clause-ok c =
     let file = listed.meaning_of c.args.listing in
     let cells = c.in_ok-complex.ensures.complex in
-    let found = c.in_ok-parts.ensures.ok file (record {
+    let found = c.in_ok-partition.ensures.ok file (record {
       labels = cells.complex.labels;
       faces = cells.faces;
       parts = ap (λ (ps : List (Vec (String Global) Global)). map texts ps) c.deref.ensures.value ∙ c.in_ok-complex.ensures.parts;
     }) c.in_ok-complex.ensures.clear in
-    record { accepted = found.0; stands = record { complex = cells; parts = found.1 } }
+    record { accepted = found.0; stands = record { complex = cells; parts = found.1; field = c.in_ok-partition.ensures.field } }

@@ -2,8 +2,9 @@ use Rattle.std.proofs.Common.{arith, ℕ, length, ap, sym, subst}
 use Rattle.std.specs.Prelude.{◌↔◌}
 use Rattle.conley_walk.specs.Lists.{items_of, ListedStep, IsDigraph, entries_of}
 use Rattle.conley_walk.proofs.ListLemmas.{length-items_of}
+use Rattle.conley_walk.proofs.EntryLemmas.{none_out_of_range}
 use Rattle.conley_lefschetz.specs.Fault.{StoodBefore}
-use Rattle.conley_lefschetz.proofs.FaceLemmas.{ends, no_cycle, no_range}
+use Rattle.conley_lefschetz.proofs.FaceLemmas.{ends, no_cycle}
 use Rattle.conley_lefschetz.proofs.incidences.faces_of.Goals as goal
 
 pub face_lists-requires : goal.face_lists-requires
@@ -37,7 +38,7 @@ unreachable-requires c =
     let digraph : IsDigraph (items_of c.deref.result.now) = λ x y s.
     let u = (steps x y).0 s in
     omega (arith, (ends c.args.dims.now c.args.incidences.now c.requires.faultless u.0 u.1).1, u.3, length-items_of c.deref.result.now, ap length c.deref.ensures.value, c.in_ok-lists.ensures.count) in
-    no_range (items_of c.deref.result.now) digraph c.in-Err-Range.field-0-0 (c.in-Err-Range.ensures.range c.in-Err-Range.field-0-0 (cc))
+    none_out_of_range (items_of c.deref.result.now) digraph c.in-Err-Range.field-0-0 (c.in-Err-Range.ensures.range c.in-Err-Range.field-0-0 (cc))
 
 pub unreachable-requires-in-Err-Cycle : goal.unreachable-requires-in-Err-Cycle
 unreachable-requires-in-Err-Cycle c =

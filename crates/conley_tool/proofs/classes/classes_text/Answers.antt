@@ -5,7 +5,6 @@ use Rattle.std.specs.declared.alloc.Global.{Global}
 use Rattle.std.proofs.lemmas.List.{get_or_default, append-nil}
 use Rattle.conley_walk.specs.Lists.{items_of}
 use Rattle.conley_walk.proofs.ListLemmas.{row_of, length-items_of}
-use Rattle.conley_input.specs.Meaning.{texts}
 use Rattle.conley_tool.specs.Members.{AreMembers}
 use Rattle.conley_tool.specs.Texts.{line, labels_of, cells_of, line_at}
 use Rattle.conley_tool.proofs.LineLemmas.{lines_more, line_of_least, line_of_other, next_is_least, other_is_not_least, next_more, next_same, cells_within}

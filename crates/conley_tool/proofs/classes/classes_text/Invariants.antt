@@ -1,6 +1,5 @@
 use Rattle.std.proofs.Common.{◌≡◌}
 use Rattle.std.specs.List.{flat_map, range_with_len}
-use Rattle.conley_input.specs.Meaning.{texts}
 use Rattle.conley_tool.specs.Texts.{line_at}
 use Rattle.conley_tool.specs.Members.{IsNext}
 use Rattle.conley_tool.proofs.classes.classes_text.Given as goal

@@ -1,6 +1,5 @@
 use Rattle.std.proofs.Common.{◌≡◌, ◌++◌, take}
 use Rattle.std.specs.List.{join_with_byte}
-use Rattle.conley_input.specs.Meaning.{bytes_of}
 use Rattle.conley_tool.specs.Texts.{labels_of}
 use Rattle.conley_tool.proofs.text.push_line.Given as goal
 
