@@ -7,6 +7,8 @@ mod four_elements;
 #[cfg(test)]
 mod runs;
 #[cfg(test)]
+mod surfaces;
+#[cfg(test)]
 mod tests;
 
 pub use four_elements::FourElements;
