@@ -1,6 +1,6 @@
 -- The classes that count, in order, are the finest Morse decomposition
-use Rattle.std.proofs.Common.{◌≡◌, inl, inr, ◌<◌, ℕ, Bool, true, List, length, sym, ap, ◌∙◌, subst, arith}
-use Rattle.std.specs.Prelude.{Contains, ◌↔◌, ◌==◌, ◌&&◌, not, slice_index}
+use Rattle.std.proofs.Common.{◌≡◌, inl, inr, ◌<◌, ℕ, true, List, length, sym, ap, ◌∙◌, subst, arith}
+use Rattle.std.specs.Prelude.{Contains, ◌↔◌, ◌==◌, not, slice_index}
 use Rattle.std.specs.List.Sorted.{IsStrictlyIncreasing}
 use Rattle.std.proofs.lemmas.Bool.{cases_order, not-true, not_from_false, eqb-false, ne_eqb, and_parts, and_from}
 use Rattle.std.proofs.lemmas.List.Elements.{Contains-get_or}
@@ -12,6 +12,7 @@ use Rattle.conley_order.specs.ClassRows.{ClassRows, is_at_or_below}
 use Rattle.conley_transitions.specs.Field.{IsField, StepOf, AreRecurrent}
 use Rattle.conley_transitions.specs.Morse.{set_at, IsAt, AreCountingClasses, IsReachOrder}
 use Rattle.conley_transitions.proofs.FinestLemmas.{classes_are_morse, classes_are_finest}
+use Rattle.conley_morse.specs.Covers.{lower_test, HaveFirstCells}
 use Rattle.conley_morse.specs.Decomposition.{field_of, IsFinestDecomposition}
 use Rattle.conley_morse.specs.Making.{AreClassLists, ClassCounts, AreCountedSoFar}
 use Rattle.conley_morse.proofs.RegularLemmas.{counts_along}
@@ -65,14 +66,13 @@ module _ {F : Arithmetic} (c : Layout) (part_of : List ℕ) (lists sets numbers 
   }
 
   module _ (rows : ClassRows) (reach : (a b : ℕ) → a < length part_of → b < length part_of → (is_at_or_below rows a b ≡ true) ↔ Reaches (StepOf (field_of F c part_of)) b a) where
-    -- set j is strictly lower than set i
-    abbrev lower : ℕ → ℕ → Bool
-    lower j i = not (i == j) && is_at_or_below rows (slice_index (set_at sets j) 0) (slice_index (set_at sets i) 0)
-
     first_cell : (i : ℕ) → i < length sets → slice_index (set_at sets i) 0 < length part_of
     first_cell i lt = classes.cells (counted.come i lt).0 (slice_index (set_at sets i) 0) (in_class i (slice_index (set_at sets i) 0) lt (has_first i lt))
 
-    lower_is_reach : IsReachOrder (field_of F c part_of) sets lower
+    pub first_cells : length rows.class_of ≡ length part_of → HaveFirstCells rows sets
+    first_cells count i lt = (let h = has_first i lt in omega (arith, h.1), omega (arith, first_cell i lt, count))
+
+    pub lower_is_reach : IsReachOrder (field_of F c part_of) sets (lower_test rows sets)
     lower_is_reach i j li lj = (
       (λ t.
           let p = and_parts (not (i == j)) (is_at_or_below rows (slice_index (set_at sets j) 0) (slice_index (set_at sets i) 0)) t in (
@@ -95,7 +95,7 @@ module _ {F : Arithmetic} (c : Layout) (part_of : List ℕ) (lists sets numbers 
 
     pub finest_decomposition : IsField (field_of F c part_of) → IsFinestDecomposition F c part_of sets
     finest_decomposition ok = record {
-      morse = (lower, classes_are_morse (field_of F c part_of) ok sets counting_classes lower lower_is_reach);
+      morse = (lower_test rows sets, classes_are_morse (field_of F c part_of) ok sets counting_classes (lower_test rows sets) lower_is_reach);
       finest = classes_are_finest (field_of F c part_of) ok sets counting_classes;
       classes = counting_classes;
       ascending = λ i lt. let w = counted.come i lt in subst IsStrictlyIncreasing (sym w.2) (classes.ascending w.0);

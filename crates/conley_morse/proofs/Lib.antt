@@ -2,3 +2,4 @@ pub mod RegularLemmas
 pub mod ClassLemmas
 pub mod CountedLemmas
 pub mod FinestLemmas
+pub mod OrderLemmas

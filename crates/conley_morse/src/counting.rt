@@ -1,6 +1,6 @@
 //! Which classes count, and their Conley numbers.
 
-ghost use Rattle.std.specs.Prelude.{◌≡◌, ◌≢◌, ◌⊎◌, ◌<◌, ◌↔◌, ℕ, All, IfOk, IfSome, IfNone, IsTrue, true, false, length};
+ghost use Rattle.std.specs.Prelude.{◌≡◌, ◌⊎◌, ◌<◌, ◌↔◌, All, IfOk, IfSome, IfNone, IsTrue, true, false, length};
 ghost use Rattle.conley_walk.specs.Lists.{items_of};
 ghost use Rattle.conley_faces.specs.Face.{IsCellList, IsLocallyClosed};
 ghost use Rattle.conley_lefschetz.specs.Conley.{IsRegular, AreConleyNumbers};

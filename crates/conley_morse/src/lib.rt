@@ -7,8 +7,9 @@ mod classes;
 mod counting;
 mod decomposition;
 mod error;
+mod order;
 
-pub use decomposition::morse_sets;
+pub use decomposition::{Decomposition, morse};
 pub use error::MorseError;
 
 /// Want of memory.

@@ -1,7 +1,7 @@
-ghost use Rattle.std.specs.Prelude.{◌≡◌, [], ◌∷◌, IfOk, length};
+ghost use Rattle.std.specs.Prelude.{◌≡◌, [], ◌∷◌, IfOk};
 ghost use Rattle.conley_walk.specs.Lists.{items_of};
 
-use crate::morse_sets;
+use crate::morse;
 use conley_field::{Field, PrimeField, Scalar};
 use conley_lefschetz::Complex;
 use conley_mvf::Partition;
@@ -61,10 +61,14 @@ fn two_parts(alloc: Global) -> Result<Vec<Vec<u32>>, AllocError>
 fn regular_parts_round_a_circle_are_one_set(rt: HostRuntime) -> Result<(), Fail> {
     let complex = triangle(&rt, rt.alloc())?;
     let partition = Partition::whole(rt.alloc(), complex.faces(), &three_parts(rt.alloc())?)?;
-    let sets = morse_sets(rt.alloc(), &complex, &partition)?;
-    assert_eq!(rt; sets.len(), 2);
-    assert_eq!(rt; sets[0].as_slice(), [0u32, 1, 2, 3, 4, 5].as_slice());
-    assert_eq!(rt; sets[1].as_slice(), [6u32].as_slice());
+    let found = morse(rt.alloc(), &complex, &partition)?;
+    assert_eq!(rt; found.sets.len(), 2);
+    assert_eq!(rt; found.sets[0].as_slice(), [0u32, 1, 2, 3, 4, 5].as_slice());
+    assert_eq!(rt; found.sets[1].as_slice(), [6u32].as_slice());
+    assert_eq!(rt; found.numbers.len(), 2);
+    assert_eq!(rt; found.numbers[0].as_slice(), [1u32, 1, 0].as_slice());
+    assert_eq!(rt; found.numbers[1].as_slice(), [0u32, 0, 1].as_slice());
+    assert_eq!(rt; found.order.as_slice(), [(1u32, 0u32)].as_slice());
     Ok(())
 }
 
@@ -72,10 +76,12 @@ fn regular_parts_round_a_circle_are_one_set(rt: HostRuntime) -> Result<(), Fail>
 fn a_regular_part_alone_is_no_set(rt: HostRuntime) -> Result<(), Fail> {
     let complex = triangle(&rt, rt.alloc())?;
     let partition = Partition::whole(rt.alloc(), complex.faces(), &two_parts(rt.alloc())?)?;
-    let sets = morse_sets(rt.alloc(), &complex, &partition)?;
-    assert_eq!(rt; sets.len(), 3);
+    let found = morse(rt.alloc(), &complex, &partition)?;
+    assert_eq!(rt; found.sets.len(), 3);
     for (i, cell) in [2u32, 5, 6].iter().enumerate() {
-        assert_eq!(rt; sets[i].as_slice(), [*cell].as_slice());
+        assert_eq!(rt; found.sets[i].as_slice(), [*cell].as_slice());
     }
+    // the triangle reaches the vertex too, but the edge is between
+    assert_eq!(rt; found.order.as_slice(), [(1u32, 0u32), (2, 1)].as_slice());
     Ok(())
 }
