@@ -1,0 +1,83 @@
+-- The recurrence classes as lists, from the numbers of the classes of transitions
+use Rattle.std.proofs.Common.{◌≡◌, inl, ◌<◌, ◌≤◌, ℕ, List, length, refl, sym, ◌∙◌, arith}
+use Rattle.std.specs.Prelude.{Contains, ◌↔◌, slice_index}
+use Rattle.std.proofs.lemmas.List.Elements.{Contains-get_or}
+use Rattle.conley_walk.specs.Walk.{Reaches}
+use Rattle.conley_walk.specs.Lists.{ListedStep}
+use Rattle.conley_walk.proofs.WalkLemmas.{reaches_on, reaches_by_step, reaches_least}
+use Rattle.conley_walk.proofs.ListLemmas.{All-from_contained, place_of, at_least, step_begins}
+use Rattle.conley_faces.specs.Face.{IsCellList, IsLocallyClosed}
+use Rattle.conley_mvf.specs.Making.{ArePartsSoFar}
+use Rattle.conley_digraph.specs.Classes.{AreClasses}
+use Rattle.conley_transitions.specs.Field.{Field, IsField, IsCell, StepOf}
+use Rattle.conley_transitions.specs.Morse.{set_at}
+use Rattle.conley_transitions.proofs.FinestLemmas.{step_cells}
+use Rattle.conley_morse.specs.Making.{AreClassLists}
+
+module _ (field : Field) (ok : IsField field) (digraph : List (List ℕ)) (count : length digraph ≡ length field.part_of) (reach : (x y : ℕ) → Reaches (ListedStep digraph) x y ↔ Reaches (StepOf field) x y) where
+  -- what a cell reaches is a cell
+  reached_cell : (x y : ℕ) → IsCell field x → Reaches (StepOf field) x y → IsCell field y
+  reached_cell x y cell r = reaches_least (IsCell field) (λ a b s h. (step_cells field ok a b s).1) r cell
+
+  pub class_lists : (class_of : List ℕ) (lists : List (List ℕ)) → AreClasses digraph class_of → ArePartsSoFar class_of (length class_of) lists → AreClassLists field lists
+  class_lists class_of lists classes parts = record {
+    few = omega (arith, parts.few, classes.count, count);
+    non_empty = λ k lt.
+        let w = parts.used k lt in
+        let h : Contains (set_at lists k) w.0 = (parts.same k w.0).1 (w.1, w.2) in
+        omega (arith, h.1);
+    ascending = parts.ascending;
+    cells = λ k x h. cell x ((parts.same k x).0 h).0;
+    all = λ x lt.
+        let h : Contains (set_at lists (slice_index class_of x)) x = (parts.same (slice_index class_of x) x).1 (place x lt, refl) in
+        (slice_index class_of x, (step_begins lists (slice_index class_of x) x h, h));
+    once = λ j k x hj hk. sym ((parts.same j x).0 hj).1 ∙ ((parts.same k x).0 hk).1;
+    same = λ k x y hx.
+        let px = (parts.same k x).0 hx in (
+          (λ hy.
+              let py = (parts.same k y).0 hy in
+              let r = (classes.same x y (node x px.0) (node y py.0)).0 (px.1 ∙ sym py.1) in
+              record { there = (reach x y).0 r.there; back = (reach y x).0 r.back }),
+          (λ r.
+              let ly = place y (reached_cell x y (cell x px.0) r.there) in
+              let e = (classes.same x y (node x px.0) (node y ly)).1 (record { there = (reach x y).1 r.there; back = (reach y x).1 r.back }) in
+              (parts.same k y).1 (ly, sym e ∙ px.1)),
+        );
+    in_order = λ j k jk lt.
+        let p = (parts.same k (slice_index (set_at lists k) 0)).0 (first k lt) in
+        let w = classes.in_order (slice_index (set_at lists k) 0) j (node (slice_index (set_at lists k) 0) p.0) (omega (arith, jk, p.1)) in
+        let h : Contains (set_at lists j) w.0 = (parts.same j w.0).1 (omega (arith, w.1, p.0), w.2) in
+        let at = place_of (set_at lists j) w.0 h in
+        let least : slice_index (set_at lists j) 0 ≤ slice_index (set_at lists j) at.0 = at_least (set_at lists j) (parts.ascending j) 0 at.0 (λ none. absurd (omega (arith, none))) at.1 in
+        omega (arith, least, at.2, w.1);
+  }
+    where
+      cell : (x : ℕ) → x < length class_of → IsCell field x
+      cell x lt = omega (arith, lt, classes.count, count)
+
+      node : (x : ℕ) → x < length class_of → x < length digraph
+      node x lt = omega (arith, lt, classes.count)
+
+      place : (x : ℕ) → IsCell field x → x < length class_of
+      place x lt = omega (arith, lt, classes.count, count)
+
+      first : (k : ℕ) → k < length lists → Contains (set_at lists k) (slice_index (set_at lists k) 0)
+      first k lt =
+          let w = parts.used k lt in
+          let h : Contains (set_at lists k) w.0 = (parts.same k w.0).1 (w.1, w.2) in
+          Contains-get_or (set_at lists k) 0 0 (omega (arith, h.1))
+
+-- a class is a list of cells without a gap
+module _ (field : Field) (ok : IsField field) (lists : List (List ℕ)) (classes : AreClassLists field lists) (k : ℕ) where
+  pub class_cells : IsCellList field.faces (set_at lists k)
+  class_cells = record {
+    ascending = classes.ascending k;
+    cells = All-from_contained (λ x. x < length field.faces) (set_at lists k) (λ x h. omega (arith, classes.cells k x h, ok.parts));
+  }
+
+  pub class_closed : IsLocallyClosed field.faces (set_at lists k)
+  class_closed x y z gap =
+      let back = (classes.same k z x gap.lower).0 gap.upper in
+      let down = reaches_by_step {Step = StepOf field} {x = x} {y = y} (inl gap.down) in
+      let further = reaches_by_step {Step = StepOf field} {x = y} {y = z} (inl gap.further) in
+      gap.outside ((classes.same k x y gap.upper).1 (record { there = down; back = reaches_on further back.there }))

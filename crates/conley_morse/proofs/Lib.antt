@@ -1,0 +1,5 @@
+pub mod RegularLemmas
+pub mod ClassLemmas
+pub mod CountedLemmas
+pub mod FinestLemmas
+pub mod OrderLemmas

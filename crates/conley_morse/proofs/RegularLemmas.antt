@@ -1,0 +1,85 @@
+-- A set is regular whatever the list of its cells, and which classes count
+use Rattle.std.proofs.Common.{inl, inr, ◌⊎◌, ◌<◌, ℕ, List, length, sym, ◌∙◌, subst}
+use Rattle.std.specs.Prelude.{Contains, ◌↔◌, slice_index}
+use Rattle.std.proofs.lemmas.Bool.{cases_eq}
+use Rattle.std.proofs.lemmas.List.Elements.{Contains-get_or}
+use Rattle.conley_walk.proofs.WalkLemmas.{reaches_by_step}
+use Rattle.conley_field.specs.Arithmetic.{Arithmetic}
+use Rattle.conley_lefschetz.specs.Complex.{Layout}
+use Rattle.conley_lefschetz.specs.Conley.{IsRegular}
+use Rattle.conley_mvf.specs.Partition.{AreCellsOf}
+use Rattle.conley_transitions.specs.Field.{Field, IsCell, StepOf, AreRecurrent, Counts}
+use Rattle.conley_transitions.specs.Morse.{set_at}
+use Rattle.conley_transitions.proofs.EssentialLemmas.{recurrent_back, recurrent_on}
+use Rattle.conley_morse.specs.Decomposition.{field_of}
+use Rattle.conley_morse.specs.Making.{LiesInOnePart, HasTwoParts, AreClassLists, ClassCounts}
+
+-- lists of the same cells are regular together
+pub regular_same : {F : Arithmetic} (c : Layout) (a b : List ℕ) → ((x : ℕ) → Contains a x ↔ Contains b x) → IsRegular F c a → IsRegular F c b
+regular_same c a b same regular chain cycle =
+    let found = regular chain (record {
+      chain = record { codes = cycle.chain.codes; only = λ x h. let up = cycle.chain.only x h in (up.0, (same up.0).1 up.1, up.2) };
+      on_mouth = record {
+        codes = cycle.on_mouth.codes;
+        only = λ x h. let up = cycle.on_mouth.only x h in ((up.0.0, (same up.0.0).1 up.0.1, up.0.2), (λ inside. up.1 ((same x).0 inside)));
+      };
+    }) in
+    record {
+      of = found.of;
+      of_chain = record { codes = found.of_chain.codes; only = λ x h. let up = found.of_chain.only x h in (up.0, (same up.0).0 up.1, up.2) };
+      part = found.part;
+      part_chain = record {
+        codes = found.part_chain.codes;
+        only = λ x h. let up = found.part_chain.only x h in ((up.0.0, (same up.0.0).0 up.0.1, up.0.2), (λ inside. up.1 ((same x).1 inside)));
+      };
+      is = found.is;
+    }
+
+-- a class counts at each of its cells, if at one
+pub counts_along : (field : Field) (x y : ℕ) → IsCell field x → IsCell field y → AreRecurrent (StepOf field) x y → Counts (StepOf field) field x → Counts (StepOf field) field y
+counts_along field x y cx cy r (inl two) = elim (cases_eq (slice_index field.part_of x) (slice_index field.part_of y)) [
+  | inl e ↦ inl (two.0, recurrent_on (StepOf field) field y x two.0 (recurrent_back (StepOf field) field x y r) two.1, (λ s. two.2 (cx, (s.1.0, s.1.1 ∙ sym e))))
+  | inr ne ↦ inl (x, recurrent_back (StepOf field) field x y r, (λ s. ne s.1.1))
+]
+counts_along field x y cx cy r (inr irregular) = elim (cases_eq (slice_index field.part_of x) (slice_index field.part_of y)) [
+  | inl e ↦ inr (λ regular. irregular (subst field.regular (sym e) regular))
+  | inr ne ↦ inl (x, recurrent_back (StepOf field) field x y r, (λ s. ne s.1.1))
+]
+
+module _ {F : Arithmetic} (c : Layout) (part_of : List ℕ) (lists : List (List ℕ)) (classes : AreClassLists (field_of F c part_of) lists) (k : ℕ) (below : k < length lists) where
+  has_first : Contains (set_at lists k) (slice_index (set_at lists k) 0)
+  has_first = Contains-get_or (set_at lists k) 0 0 (classes.non_empty k below)
+
+  -- the class has all cells of one part
+  one_part : LiesInOnePart part_of (set_at lists k) → (x : ℕ) → Contains (set_at lists k) x → AreCellsOf part_of (slice_index part_of x) (set_at lists k)
+  one_part one x hx = record {
+    same = λ z. (
+      (λ hz. (classes.cells k z hz, one z hz ∙ sym (one x hx))),
+      (λ p.
+          let cx = classes.cells k x hx in
+          (classes.same k x z hx).1 (record {
+            there = reaches_by_step {Step = StepOf (field_of F c part_of)} {x = x} {y = z} (inr (cx, p));
+            back = reaches_by_step {Step = StepOf (field_of F c part_of)} {x = z} {y = x} (inr (p.0, (cx, sym p.1)));
+          })),
+    );
+  }
+
+  counts_from_first : Counts (StepOf (field_of F c part_of)) (field_of F c part_of) (slice_index (set_at lists k) 0) → ClassCounts (field_of F c part_of) (set_at lists k)
+  counts_from_first counts x hx =
+      counts_along (field_of F c part_of) (slice_index (set_at lists k) 0) x (classes.cells k (slice_index (set_at lists k) 0) has_first) (classes.cells k x hx)
+      ((classes.same k (slice_index (set_at lists k) 0) x has_first).0 hx) counts
+
+  pub class_counts : HasTwoParts part_of (set_at lists k) ⊎ (LiesInOnePart part_of (set_at lists k) × ¬ IsRegular F c (set_at lists k)) → ClassCounts (field_of F c part_of) (set_at lists k)
+  class_counts (inl two) = counts_from_first (inl (two.0, (classes.same k (slice_index (set_at lists k) 0) two.0 has_first).0 two.1, (λ s. two.2 s.1.1)))
+  class_counts (inr critical) =
+      counts_from_first (inr (λ regular. critical.1 (regular (set_at lists k) (one_part critical.0 (slice_index (set_at lists k) 0) has_first))))
+
+  pub class_passed : LiesInOnePart part_of (set_at lists k) → IsRegular F c (set_at lists k) → ¬ ClassCounts (field_of F c part_of) (set_at lists k)
+  class_passed one regular counts = elim (counts (slice_index (set_at lists k) 0) has_first) [
+    | inl two ↦
+        let inside = (classes.same k (slice_index (set_at lists k) 0) two.0 has_first).1 two.1 in
+        two.2 (classes.cells k (slice_index (set_at lists k) 0) has_first, (classes.cells k two.0 inside, one two.0 inside))
+    | inr irregular ↦
+        let own = one_part one (slice_index (set_at lists k) 0) has_first in
+        irregular (λ cells are. regular_same c (set_at lists k) cells (λ x. ((λ h. (are.same x).1 ((own.same x).0 h)), (λ h. (own.same x).1 ((are.same x).0 h)))) regular)
+  ]

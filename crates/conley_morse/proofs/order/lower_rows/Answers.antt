@@ -1,0 +1,13 @@
+use Rattle.std.proofs.Common.{arith, ◌≤◌, ◌*◌, length, ap}
+use Rattle.conley_walk.specs.Lists.{items_of}
+use Rattle.conley_morse.specs.Covers.{lower_test}
+use Rattle.conley_morse.proofs.OrderLemmas.{lower_more}
+use Rattle.conley_morse.proofs.order.lower_rows.Goals as goal
+
+pub loop-p-preserved : goal.loop-p-preserved
+loop-p-preserved c =
+    let row = c.in_ok-words_of.field-0 in
+    let wide : length c.args.sets.now ≤ 64 * length row.items = omega (arith, c.in_ok-words_of.ensures.width, c.in_ok-marks.ensures.width, ap length c.deref.ensures.value, row.ok.0) in
+    rw c.in_ok-push.ensures.items
+    (lower_more (lower_test c.args.rows.now (items_of c.args.sets.now)) (length c.args.sets.now) c.loop-p.p c.loop-p.lower.items row c.loop-p.invariant wide (λ q lq.
+    rw (c.deref.ensures.value, c.in_ok-marks.ensures.marks q lq) at (c.in_ok-words_of.ensures.bits q)))

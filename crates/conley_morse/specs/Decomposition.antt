@@ -1,0 +1,25 @@
+-- The multivector field of a complex and a partition of its cells, and its finest Morse decomposition as a list of lists.
+--     field_of F c part_of                  the field whose part p is called regular where every list of its cells is a regular set
+--     IsFinestDecomposition F c part_of sets    the finest Morse decomposition, its sets in the order of their least cells
+-- After Mrozek and Wanner; the wording is this project's own.
+use Rattle.std.specs.Prelude.{◌<◌, ℕ, Bool, List, length, slice_index}
+use Rattle.std.specs.List.Sorted.{IsStrictlyIncreasing}
+use Rattle.conley_field.specs.Arithmetic.{Arithmetic}
+use Rattle.conley_mvf.specs.Partition.{AreCellsOf}
+use Rattle.conley_lefschetz.specs.Complex.{Layout}
+use Rattle.conley_lefschetz.specs.Conley.{IsRegular}
+use Rattle.conley_transitions.specs.Field.{Field}
+use Rattle.conley_transitions.specs.Morse.{set_at, IsMorse, IsFinest, AreCountingClasses}
+
+abbrev pub field_of : Arithmetic → Layout → List ℕ → Field
+field_of F c part_of = record { faces = c.faces; part_of = part_of; regular = λ p. (cells : List ℕ) → AreCellsOf part_of p cells → IsRegular F c cells }
+
+pub record IsFinestDecomposition (F : Arithmetic) (c : Layout) (part_of : List ℕ) (sets : List (List ℕ)) : Type 0 where
+  -- with some order it is a Morse decomposition
+  pub morse : (below : ℕ → ℕ → Bool) × IsMorse (field_of F c part_of) sets below
+  pub finest : IsFinest (field_of F c part_of) sets
+  -- its sets are the recurrence classes that count
+  pub classes : AreCountingClasses (field_of F c part_of) sets
+  pub ascending : (i : ℕ) → i < length sets → IsStrictlyIncreasing (set_at sets i)
+  -- the first cell of an ascending list is its least
+  pub in_order : (i j : ℕ) → i < j → j < length sets → slice_index (set_at sets i) 0 < slice_index (set_at sets j) 0

@@ -1,0 +1,3 @@
+pub mod Decomposition
+pub mod Making
+pub mod Covers
