@@ -1,17 +1,18 @@
 -- The complex of incidences without a fault
-use Rattle.std.proofs.Common.{◌≡◌, ◌≢◌, inl, inr, ◌<◌, ◌≤◌, ◌^◌, ℕ, List, [], length, get_or, refl, sym, ◌∙◌, ap, arith, All, Option, Some, None}
+use Rattle.std.proofs.Common.{◌≡◌, ◌≢◌, inl, inr, ◌<◌, ◌≤◌, ◌^◌, ℕ, List, [], length, get_or, refl, sym, ◌∙◌, subst, ap, arith, All, Option, Some, None}
 use Rattle.std.proofs.lemmas.Bool.{cases_lt, cases_eq}
 use Rattle.std.proofs.lemmas.List.{get_or-map, length-map, get_or_past, get_or_default}
+use Rattle.std.proofs.lemmas.List.Elements.{Contains-get_or}
 use Rattle.conley_field.specs.Arithmetic.{Arithmetic, IsField}
 use Rattle.conley_algebra.specs.Entries.{product_of}
 use Rattle.conley_algebra.proofs.SumLemmas as sums
-use Rattle.conley_chains.specs.Chain.{coefficient}
+use Rattle.conley_chains.specs.Chain.{coefficient, IsChain}
 use Rattle.conley_chains.specs.Matrix.{Table, entry, column_count, AllCodes}
 use Rattle.conley_lefschetz.specs.Listing.{triple_at, incidence_of, square_at}
 use Rattle.conley_lefschetz.specs.Making.{column_of, AreFacesOf, FindsFirst}
 use Rattle.conley_lefschetz.specs.Fault.{IsFault, StoodBefore}
 use Rattle.conley_lefschetz.specs.Complex.{IsComplex}
-use Rattle.conley_lefschetz.proofs.ColumnLemmas.{IsListed, incidence_of-cases, coefficient-listed, coefficient-unlisted}
+use Rattle.conley_lefschetz.proofs.ColumnLemmas.{IsListed, incidence_of-cases, coefficient-listed, coefficient-unlisted, pairs_chain}
 use Rattle.conley_lefschetz.proofs.FaceLemmas.{ends, one_down}
 
 -- beyond the columns the square is zero
@@ -62,6 +63,13 @@ module _ (dims : List ℕ) (incidences : List (ℕ × ℕ × ℕ)) (clear : (k w
           | inr none ↦ absurd (none.1 s)
         ]
 
+    -- the lists of faces ascend, and no listed scalar is zero
+    all_chains : All IsChain m.columns
+    all_chains x d lt =
+        let is : get_or m.columns x d ≡ column_of incidences x (get_or faces x []) = get_or_default m.columns x d [] lt ∙ columns x (omega (arith, lt, count)) in
+        subst IsChain (sym is) (pairs_chain (incidence_of incidences x) (get_or faces x []) (are.ascending x) (λ k y below.
+        scalar_from_stood x (get_or (get_or faces x []) k y) ((are.steps x (get_or (get_or faces x []) k y)).0 (Contains-get_or (get_or faces x []) k y below))))
+
     -- the square of the matrix is that of the scalars
     pub square_is : (F : Arithmetic) → IsField F → (x z : ℕ) → product_of F (column_count m) (entry m) (entry m) z x ≡ square_at F incidences (length dims) x z
     square_is F laws x z =
@@ -79,6 +87,7 @@ module _ (dims : List ℕ) (incidences : List (ℕ × ℕ × ℕ)) (clear : (k w
       few = omega (arith, few, count);
       square = rows ∙ sym count;
       codes = all_codes F codes;
+      chains = all_chains;
       dims_count = sym count;
       squares = λ z x. elim (cases_eq (product_of F (column_count m) (entry m) (entry m) z x) 0) [ inl e ↦ e | inr ne ↦ absurd (none x z ne) ];
       one_down = λ y x ne. one_down dims incidences clear x y (stood_from_scalar x y (λ e. ne (entries x y ∙ e)));
@@ -87,4 +96,5 @@ module _ (dims : List ℕ) (incidences : List (ℕ × ℕ × ℕ)) (clear : (k w
         (λ s e. scalar_from_stood x y ((are.steps x y).0 s) (sym (entries x y) ∙ e)),
         (λ ne. (are.steps x y).1 (stood_from_scalar x y (λ e. ne (entries x y ∙ e)))),
       );
+      ascending = are.ascending;
     }

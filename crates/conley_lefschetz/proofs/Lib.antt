@@ -5,6 +5,7 @@ pub mod FaceLemmas
 pub mod FaultLemmas
 pub mod ColumnLemmas
 pub mod ComplexLemmas
+pub mod OnceLemmas
 pub mod LevelLemmas
 pub mod SquareLemmas
 pub mod ConleyLemmas

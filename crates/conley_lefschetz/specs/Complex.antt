@@ -1,13 +1,16 @@
 -- What a contract sees of a complex, beside its field.
 --     Layout                   labels, boundary, dimensions, direct faces and the number of levels
---     IsComplex F m dims faces the boundary, the dimensions and the direct faces fit each other
+--     IsComplex F m dims faces the boundary, the dimensions and the direct faces fit each other; columns and lists of faces ascend
 --     IsLevels dims levels     one more than the greatest dimension, 0 without cells
 --     IsLayout F c             the laws of a complex: the above, and distinct labels
 --     IsComplexOf F listing c  the listing has no fault, and this is its complex
+--     ComplexIsOne F           a listing has at most one complex
 -- After Mrozek and Wanner; the wording is this project's own.
-use Rattle.std.specs.Prelude.{◌≡◌, ◌≢◌, ◌↔◌, ℕ, ◌+◌, ◌<◌, ◌≤◌, ◌^◌, List, All, length}
+use Rattle.std.specs.Prelude.{◌≡◌, ◌≢◌, ◌↔◌, ℕ, ◌+◌, ◌<◌, ◌≤◌, ◌^◌, List, [], All, length, slice_index_or}
+use Rattle.std.specs.List.Sorted.{IsStrictlyIncreasing}
 use Rattle.conley_field.specs.Arithmetic.{Arithmetic}
 use Rattle.conley_algebra.specs.Entries.{product_of, zero_entries, SameEntries, OnlyWhere}
+use Rattle.conley_chains.specs.Chain.{IsChain}
 use Rattle.conley_chains.specs.Matrix.{Table, entry, column_count, AllCodes}
 use Rattle.conley_walk.specs.Lists.{ListedStep}
 use Rattle.conley_lefschetz.specs.Listing.{Listing, dim_in, incidence_of}
@@ -19,6 +22,8 @@ pub record IsComplex (F : Arithmetic) (m : Table) (dims : List ℕ) (faces : Lis
   pub few : column_count m < 2 ^ 32
   pub square : m.rows ≡ column_count m
   pub codes : AllCodes F m
+  -- each column is a chain: its places ascend, and no code is zero
+  pub chains : All IsChain m.columns
   pub dims_count : length dims ≡ column_count m
   -- the sum over y of κ(x, y)·κ(y, z) is zero for all x and z
   pub squares : SameEntries (product_of F (column_count m) (entry m) (entry m)) zero_entries
@@ -26,6 +31,8 @@ pub record IsComplex (F : Arithmetic) (m : Table) (dims : List ℕ) (faces : Lis
   pub faces_count : length faces ≡ column_count m
   -- y is directly under x exactly where κ(x, y) isn't zero
   pub direct : (x y : ℕ) → ListedStep faces x y ↔ (entry m y x ≢ 0)
+  -- the cells directly under each cell ascend
+  pub ascending : (x : ℕ) → IsStrictlyIncreasing (slice_index_or faces x [])
 
 -- the least number above all dimensions
 pub record IsLevels (dims : List ℕ) (levels : ℕ) : Type 0 where
@@ -51,3 +58,7 @@ pub record IsComplexOf (F : Arithmetic) (listing : Listing) (c : Layout) : Type 
   pub labels : c.labels ≡ listing.labels
   pub dims : c.dims ≡ listing.dims
   pub boundary : (x y : ℕ) → entry c.boundary y x ≡ incidence_of listing.incidences x y
+
+-- at most one complex has the laws and is that of the listing
+abbrev pub ComplexIsOne : Arithmetic → Type 0
+ComplexIsOne F = (listing : Listing) (a b : Layout) → IsLayout F a → IsLayout F b → IsComplexOf F listing a → IsComplexOf F listing b → a ≡ b

@@ -5,12 +5,13 @@
 --     NextFault dims old new x y code why  the least fault of the next triple, or 0
 --     FindsFirst P answer                  the first pair of numbers at which P holds, if there is one
 --     FindsFirstPlace P answer             the same over one number
---     AreFacesOf incidences n faces        lists of the cells directly under each of n cells
+--     AreFacesOf incidences n faces        ascending lists of the cells directly under each of n cells
 --     cells_of triple                      the two cells of a triple
 --     column_of incidences x cells         the entries of column x of the boundary, at the cells
 --     AddsMultiple F old new by chain      the sums gain a multiple of a chain
 --     IsSquareColumn F m x sums            the sums are column x of the square of m
 use Rattle.std.specs.Prelude.{◌≡◌, ◌≢◌, ◌⊎◌, ◌↔◌, ◌<◌, ℕ, List, [], ◌∷◌, ◌++◌, Bool, true, false, Option, Some, None, All, Contains, length, map, slice_index, slice_index_or}
+use Rattle.std.specs.List.Sorted.{IsStrictlyIncreasing}
 use Rattle.conley_field.specs.Arithmetic.{Arithmetic}
 use Rattle.conley_algebra.specs.Entries.{product_of}
 use Rattle.conley_chains.specs.Chain.{coefficient}
@@ -64,6 +65,7 @@ FindsFirstPlace P (Some k) = P k × ((j : ℕ) → j < k → ¬ P j)
 pub record AreFacesOf (incidences : List (ℕ × ℕ × ℕ)) (n : ℕ) (faces : List (List ℕ)) : Type 0 where
   pub count : length faces ≡ n
   pub steps : (x y : ℕ) → ListedStep faces x y ↔ StoodBefore incidences (length incidences) x y
+  pub ascending : (x : ℕ) → IsStrictlyIncreasing (slice_index_or faces x [])
 
 abbrev pub cells_of : ℕ × ℕ × ℕ → ℕ × ℕ
 cells_of triple = (triple.0, triple.1)

@@ -2,6 +2,7 @@
 
 ghost use Rattle.conley_field.specs.Arithmetic.{Arithmetic};
 ghost use Rattle.conley_lefschetz.specs.Fault.{FirstFaultIsOne};
+ghost use Rattle.conley_lefschetz.specs.Complex.{ComplexIsOne};
 ghost use Rattle.conley_lefschetz.specs.Conley.{NumbersAreOne, RegularWhereZero};
 
 use crate::Complex;
@@ -10,6 +11,11 @@ use conley_field::Field;
 /// At most one fault of a listing is the first: its number and its place tell the rest of it.
 pub fn first_fault_is_one()
     ensures { (F : Arithmetic) → FirstFaultIsOne F }
+{}
+
+/// At most one complex is that of a listing: its labels, dimensions and incidences tell the rest of it.
+pub fn complex_of_listing_is_one()
+    ensures { (F : Arithmetic) → ComplexIsOne F }
 {}
 
 /// The Conley numbers of a set are one list, and any two lists of cycles that show a number have its length.

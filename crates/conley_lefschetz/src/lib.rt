@@ -15,7 +15,9 @@ mod square;
 
 pub use complex::Complex;
 pub use error::ComplexError;
-pub use laws::{conley_numbers_are_one, first_fault_is_one, regular_sets_have_zeros};
+pub use laws::{
+    complex_of_listing_is_one, conley_numbers_are_one, first_fault_is_one, regular_sets_have_zeros,
+};
 
 #[cfg(test)]
 mod tests;

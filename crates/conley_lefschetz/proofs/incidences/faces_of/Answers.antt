@@ -30,6 +30,7 @@ returns-in-Ok c =
         (λ s. (steps x y).0 ((c.in-Ok.ensures.ok.1.same x y).0 s)),
         (λ s. (c.in-Ok.ensures.ok.1.same x y).1 ((steps x y).1 s)),
       );
+      ascending = c.in-Ok.ensures.ok.1.ascending;
     }
 
 pub unreachable-requires : goal.unreachable-requires
