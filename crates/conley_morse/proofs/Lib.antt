@@ -3,3 +3,4 @@ pub mod ClassLemmas
 pub mod CountedLemmas
 pub mod FinestLemmas
 pub mod OrderLemmas
+pub mod OnceLemmas

@@ -1,8 +1,9 @@
 -- The multivector field of a complex and a partition of its cells, and its finest Morse decomposition as a list of lists.
 --     field_of F c part_of                  the field whose part p is called regular where every list of its cells is a regular set
 --     IsFinestDecomposition F c part_of sets    the finest Morse decomposition, its sets in the order of their least cells
+--     FinestDecompositionIsOne F c part_of  at most one list of sets is the finest Morse decomposition
 -- After Mrozek and Wanner; the wording is this project's own.
-use Rattle.std.specs.Prelude.{◌<◌, ℕ, Bool, List, length, slice_index}
+use Rattle.std.specs.Prelude.{◌≡◌, ◌<◌, ℕ, Bool, List, length, slice_index}
 use Rattle.std.specs.List.Sorted.{IsStrictlyIncreasing}
 use Rattle.conley_field.specs.Arithmetic.{Arithmetic}
 use Rattle.conley_mvf.specs.Partition.{AreCellsOf}
@@ -23,3 +24,7 @@ pub record IsFinestDecomposition (F : Arithmetic) (c : Layout) (part_of : List �
   pub ascending : (i : ℕ) → i < length sets → IsStrictlyIncreasing (set_at sets i)
   -- the first cell of an ascending list is its least
   pub in_order : (i j : ℕ) → i < j → j < length sets → slice_index (set_at sets i) 0 < slice_index (set_at sets j) 0
+
+-- at most one list of sets is the finest decomposition
+abbrev pub FinestDecompositionIsOne : Arithmetic → Layout → List ℕ → Type 0
+FinestDecompositionIsOne F c part_of = (a b : List (List ℕ)) → IsFinestDecomposition F c part_of a → IsFinestDecomposition F c part_of b → a ≡ b
