@@ -1,15 +1,12 @@
 //! The finest Morse decomposition.
 
-ghost use Rattle.std.specs.Prelude.{◌≡◌, ◌<◌, ◌≤◌, ◌↔◌, ℕ, List, true, IfOk, length};
+ghost use Rattle.std.specs.Prelude.{◌≡◌, ◌<◌, ◌≤◌, ◌↔◌, ℕ, true, IfOk, length};
 ghost use Rattle.conley_walk.specs.Walk.{Reaches};
 ghost use Rattle.conley_walk.specs.Lists.{items_of};
 ghost use Rattle.conley_mvf.specs.Partition.{IsMultivectorField};
-ghost use Rattle.conley_lefschetz.specs.Conley.{AreConleyNumbers};
 ghost use Rattle.conley_order.specs.ClassRows.{is_at_or_below};
 ghost use Rattle.conley_transitions.specs.Step.{Step};
-ghost use Rattle.conley_transitions.specs.Morse.{set_at};
-ghost use Rattle.conley_morse.specs.Covers.{AreCovers};
-ghost use Rattle.conley_morse.specs.Decomposition.{field_of, IsFinestDecomposition};
+ghost use Rattle.conley_morse.specs.Decomposition.{IsConleyMorseGraph, HasTooManySets};
 
 use crate::MorseError;
 use crate::classes::members_of;
@@ -46,14 +43,11 @@ pub fn morse<F: Field>(
     partition: &Partition,
 ) -> Result<Decomposition, MorseError>
     requires { IsMultivectorField complex.now.1.faces partition.now }
-    ensures sets { IfOk result (λ d. IsFinestDecomposition (F.arithmetic complex.now.0) complex.now.1 partition.now (items_of d.sets.items)) }
+    ensures graph { IfOk result (λ d. IsConleyMorseGraph (F.arithmetic complex.now.0) complex.now.1 partition.now (items_of d.sets.items) (items_of d.numbers.items) d.order.items) }
     ensures few { IfOk result (λ d. length d.sets.items ≤ 2000) }
-    ensures numbers_count { IfOk result (λ d. length d.numbers.items ≡ length d.sets.items) }
-    ensures numbers { IfOk result (λ d. (i : ℕ) → i < length d.sets.items → AreConleyNumbers (F.arithmetic complex.now.0) complex.now.1 (set_at (items_of d.sets.items) i) (set_at (items_of d.numbers.items) i)) }
-    ensures order { IfOk result (λ d. AreCovers (field_of (F.arithmetic complex.now.0) complex.now.1 partition.now) (items_of d.sets.items) d.order.items) }
     ensures grading_count { IfOk result (λ d. length d.grading.class_of ≡ length partition.now) }
     ensures grading { IfOk result (λ d. (a b : ℕ) → a < length partition.now → b < length partition.now → (is_at_or_below d.grading a b ≡ true) ↔ Reaches (Step complex.now.1.faces partition.now) b a) }
-    ensures too_many { (n : ℕ) → result ≡ Err (MorseError.TooManyMorse n) → (2000 < n) × ((sets : List (List ℕ)) × IsFinestDecomposition (F.arithmetic complex.now.0) complex.now.1 partition.now sets × (length sets ≡ n)) }
+    ensures too_many { (n : ℕ) → result ≡ Err (MorseError.TooManyMorse n) → HasTooManySets (F.arithmetic complex.now.0) complex.now.1 partition.now n }
 {
     let faces = complex.faces();
     let _cells = faces.count();

@@ -69,28 +69,22 @@ covers-requires-clause-firsts g c =
     rw c.deref.ensures.value (first_cells {F = g.F.Field.arithmetic c.args.complex.now.0} c.args.complex.now.1 c.args.partition.now (items_of c.in_ok-classes.classes.items) (items_of c.in_ok-sets.sets.items) (items_of c.in_ok-sets.numbers.items) (classes g f)
     (all_counted g d) c.in_ok-grading.grading (cell_reach g d) (omega (arith, steps.count, c.requires.count, c.in_ok-grading.ensures.classes.count)))
 
-pub returns-clause-sets : goal.returns-clause-sets
-returns-clause-sets g c =
-    let d = (goal.at.returns-clause-sets g c).In_ok-sets in
-    let f = (goal.at.returns-clause-sets g c).In_ok-classes in
-    finest g d f (classes g f) (is_field g f)
-
-pub returns-clause-numbers_count : goal.returns-clause-numbers_count
-returns-clause-numbers_count g c = omega (arith, c.in_ok-sets.ensures.numbers_count, length-items_of c.in_ok-sets.sets.items, length-items_of c.in_ok-sets.numbers.items)
-
-pub returns-clause-numbers : goal.returns-clause-numbers
-returns-clause-numbers g c = λ i lt. c.in_ok-sets.ensures.conley i (omega (arith, lt, length-items_of c.in_ok-sets.sets.items))
-
-pub returns-clause-order : goal.returns-clause-order
-returns-clause-order g c =
-    let d = (goal.at.returns-clause-order g c).In_ok-sets in
-    let f = (goal.at.returns-clause-order g c).In_ok-classes in
+pub returns-clause-graph : goal.returns-clause-graph
+returns-clause-graph g c =
+    let d = (goal.at.returns-clause-graph g c).In_ok-sets in
+    let f = (goal.at.returns-clause-graph g c).In_ok-classes in
     let sets = c.in_ok-sets.sets.items in
+    let long = length-items_of sets in
     let test = lower_test c.in_ok-grading.grading (items_of sets) in
     let found = rw c.deref.ensures.value at c.in_ok-order.ensures in
-    covers_of_reach (field_of (g.F.Field.arithmetic c.args.complex.now.0) c.args.complex.now.1 c.args.partition.now) (items_of sets) test c.in_ok-order.order.items
-    (lower_is_reach {F = g.F.Field.arithmetic c.args.complex.now.0} c.args.complex.now.1 c.args.partition.now (items_of c.in_ok-classes.classes.items) (items_of sets) (items_of c.in_ok-sets.numbers.items) (classes g f) (all_counted g d) c.in_ok-grading.grading
-    (cell_reach g d)) (subst (λ (n : ℕ). AreCoversSoFar test n n c.in_ok-order.order.items) (sym (length-items_of sets)) found)
+    record {
+      sets = finest g d f (classes g f) (is_field g f);
+      numbers_count = omega (arith, c.in_ok-sets.ensures.numbers_count, long, length-items_of c.in_ok-sets.numbers.items);
+      numbers = λ i lt. c.in_ok-sets.ensures.conley i (omega (arith, lt, long));
+      order = covers_of_reach (field_of (g.F.Field.arithmetic c.args.complex.now.0) c.args.complex.now.1 c.args.partition.now) (items_of sets) test c.in_ok-order.order.items
+          (lower_is_reach {F = g.F.Field.arithmetic c.args.complex.now.0} c.args.complex.now.1 c.args.partition.now (items_of c.in_ok-classes.classes.items) (items_of sets) (items_of c.in_ok-sets.numbers.items) (classes g f) (all_counted g d) c.in_ok-grading.grading
+          (cell_reach g d)) (subst (λ (n : ℕ). AreCoversSoFar test n n c.in_ok-order.order.items) (sym long) found);
+    }
 
 pub returns-clause-grading_count : goal.returns-clause-grading_count
 returns-clause-grading_count g c =
