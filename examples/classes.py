@@ -16,53 +16,63 @@ import sys
 
 
 def reached(steps, start):
-    """All that walks lead to from the start, itself included."""
+    """All that walks lead to from the start, itself included. steps[x] is where steps lead from x."""
     found, waiting = {start}, [start]
     while waiting:
-        for y in steps(waiting.pop()):
+        for y in steps[waiting.pop()]:
             if y not in found:
                 found.add(y)
                 waiting.append(y)
     return found
 
 
-def classes(problem):
-    labels = [label for label, dimension in problem["complex"]["cells"]]
-    number = {label: x for x, label in enumerate(labels)}
-    cells = range(len(labels))
+class Problem:
+    """What a file says, by the numbers of its cells: labels, dimensions, boundary, part_of and steps are lists."""
 
-    direct = [[] for x in cells]
-    for x, y, value in problem["complex"]["incidences"]:
-        if value % problem["scalars"] != 0:
-            direct[x].append(y)
+    def __init__(self, file):
+        value = json.load(file)
+        self.order = value["scalars"]
+        self.labels = [label for label, dimension in value["complex"]["cells"]]
+        self.dimensions = [dimension for label, dimension in value["complex"]["cells"]]
+        self.cells = range(len(self.labels))
 
-    part_of = [[x] for x in cells]
-    for listed in problem["field"]["parts"]:
-        part = [number[label] for label in listed]
-        for x in part:
-            part_of[x] = part
+        # the scalars of the cells directly under each cell
+        self.boundary = [{} for x in self.cells]
+        for x, y, number in value["complex"]["incidences"]:
+            if number % self.order != 0:
+                self.boundary[x][y] = number % self.order
 
-    leads = [reached(direct.__getitem__, x) | set(part_of[x]) for x in cells]
-    comes = [[] for x in cells]
-    for x in cells:
-        for y in leads[x]:
-            comes[y].append(x)
+        number_of = {label: x for x, label in enumerate(self.labels)}
+        self.part_of = [(x,) for x in self.cells]
+        for listed in value["field"]["parts"]:
+            part = tuple(number_of[label] for label in listed)
+            for x in part:
+                self.part_of[x] = part
 
+        self.steps = [reached(self.boundary, x).union(self.part_of[x]) for x in self.cells]
+
+
+def recurrence_classes(problem):
+    """The classes as ascending lists of cells, in the order of their first cells."""
+    back = [[] for x in problem.cells]
+    for x in problem.cells:
+        for y in problem.steps[x]:
+            back[y].append(x)
     placed = set()
-    for x in cells:
+    for x in problem.cells:
         if x not in placed:
-            mutual = reached(leads.__getitem__, x) & reached(comes.__getitem__, x)
+            mutual = reached(problem.steps, x) & reached(back, x)
             placed |= mutual
-            yield [labels[y] for y in sorted(mutual)]
+            yield sorted(mutual)
 
 
 def main(words):
     if len(words) != 1:
         sys.exit("usage: classes.py FILE")
     with open(words[0], encoding="utf-8") as file:
-        problem = json.load(file)
-    for found in classes(problem):
-        print(*found)
+        problem = Problem(file)
+    for cells in recurrence_classes(problem):
+        print(*(problem.labels[x] for x in cells))
 
 
 if __name__ == "__main__":

@@ -7,7 +7,11 @@ use Rattle.std.proofs.lemmas.Bool.Decides.{nat_tests}
 use Rattle.std.proofs.lemmas.List.{get_or_default}
 use Rattle.std.proofs.lemmas.List.Elements.{All-map, Contains-push_cases, Contains-append_cases, Contains-append_left, Contains-append_right}
 use Rattle.std.proofs.lemmas.List.FromFn.{length-range_with_len, get_or-range_with_len, get_or-map-range_with_len, length-map-range_with_len}
+use Rattle.conley_field.specs.AnyField.{arithmetic_of}
 use Rattle.conley_field.specs.Arithmetic.{Arithmetic, IsField, ones, code_of_int}
+use Rattle.conley_field.specs.Prime.{residues}
+use Rattle.conley_field.specs.declared.any.AnyField.{AnyField}
+use Rattle.conley_field.specs.declared.any.AnyField.TheVariants.{Prime}
 use Rattle.conley_chains.specs.Matrix.{entry}
 use Rattle.conley_walk.specs.Lists.{ListedStep}
 use Rattle.conley_walk.proofs.ListLemmas.{Contains-none, step_begins}
@@ -20,6 +24,10 @@ use Rattle.conley_input.specs.Listing.{Listing, with_scalar, with_scalars, compl
 use Rattle.conley_input.specs.Problem.{AreFacesOf}
 use Rattle.conley_input.specs.Refusals.{IsClear}
 use Rattle.conley_input.specs.declared.error.FileFault.TheVariants.{TooMany}
+
+-- a field of the table has the residues modulo its order
+pub arithmetic_of-residues : (f : AnyField) → arithmetic_of f ≡ residues (arithmetic_of f).order
+arithmetic_of-residues (Prime f) = refl
 
 -- a sum of ones is an element
 ones-below : {F : Arithmetic} → IsField F → (n : ℕ) → ones F n < F.order

@@ -1,12 +1,18 @@
--- At most one refusal is the first, and none is where a problem is read.
-use Rattle.std.proofs.Common.{◌≡◌, inl, inr, ℕ, List, Result, Ok, Err, sym, ◌∙◌, ap, arith}
-use Rattle.std.specs.Prelude.{◌==◌, ◌↔◌, if◌then◌else◌, length}
+-- At most one refusal is the first, none is where a problem is read, and at most one problem is read.
+use Rattle.std.proofs.Common.{◌≡◌, inl, inr, ◌<◌, ◌≤◌, ℕ, zero, suc, Bool, true, false, List, Result, Ok, Err, length, refl, sym, ◌∙◌, ap, subst, arith}
+use Rattle.std.specs.Prelude.{◌==◌, if◌then◌else◌, slice_index}
+use Rattle.std.proofs.lemmas.Bool.{cases_order}
+use Rattle.std.proofs.lemmas.Grind.{same_number_lists}
 use Rattle.conley_first.proofs.FirstLemmas.{first-one}
-use Rattle.conley_walk.specs.Lists.{ListedStep}
-use Rattle.conley_mvf.specs.Partition.{ShareAPart, IsWhole}
-use Rattle.conley_input.specs.Listing.{Listing}
+use Rattle.conley_field.specs.Arithmetic.{IsField}
+use Rattle.conley_field.specs.Prime.{is_prime_order, residues}
+use Rattle.conley_field.specs.ResidueLaws.{residues-IsField}
+use Rattle.conley_lefschetz.specs.Complex.{Layout, IsLayout}
+use Rattle.conley_lefschetz.proofs.OnceLemmas.{complex_once}
+use Rattle.conley_mvf.specs.Partition.{IsWhole, IsPartition}
+use Rattle.conley_input.specs.Listing.{Listing, scalars_of, complex_of, parts_of}
 use Rattle.conley_input.specs.Refusals.{number, place, Fails, PassesLimit}
-use Rattle.conley_input.specs.Problem.{Problem, ReadsForm, RefusesForm, Reads, Refuses, form_of}
+use Rattle.conley_input.specs.Problem.{Problem, ReadsForm, RefusesForm, Reads, Refuses, IsSound, form_of}
 use Rattle.conley_input.specs.declared.error.FileFault.{FileFault}
 use Rattle.conley_input.specs.declared.error.FileFault.TheVariants.{NotJson, BadShape, NotBuilt, UnknownField, TooMany, BadLabel, DuplicateLabel, BadIncidence, BadSimplex, BadAxes, BadCube, TooManyCells, NotBoundary, UnknownCell, RepeatedCell, EmptyPart, NotLocallyClosed}
 
@@ -62,29 +68,79 @@ not_both (Ok file) a problem f reads = reads.accepted a f.holds
 pub not_refused_and_read : (bytes : List ℕ) (a : FileFault) (problem : Problem) → Refuses bytes a → Reads bytes problem → ⊥
 not_refused_and_read bytes a problem refuses reads = not_both (form_of bytes) a problem refuses reads
 
--- two problems that the bytes stand for differ at most in the order of direct faces
-pub record AreAlike (p q : Problem) : Type 0 where
-  pub labels : p.complex.labels ≡ q.complex.labels
-  pub parts : (x y : ℕ) → ShareAPart p.part_of x y ↔ ShareAPart q.part_of x y
-  pub count : length p.complex.faces ≡ length q.complex.faces
-  pub steps : (x y : ℕ) → ListedStep p.complex.faces x y ↔ ListedStep q.complex.faces x y
+-- ---- at most one problem is read
 
--- two partitions that are the lists and one part for each other cell
-whole_alike : (lists : List (List ℕ)) (p q : List ℕ) → length p ≡ length q → IsWhole lists p → IsWhole lists q → (x y : ℕ) → ShareAPart p x y → ShareAPart q x y
-whole_alike lists p q count a b x y s = (omega (arith, s.0, count), (omega (arith, s.1.0, count), sym ((b x y (omega (arith, s.0, count)) (omega (arith, s.1.0, count))).1 ((a x y s.0 s.1.0).0 (sym s.1.1)))))
+-- the numbers of two partitions into the same lists agree, cell by cell
+module _ (lists : List (List ℕ)) (p q : List ℕ) (cells : length p ≡ length q) (p_whole : IsWhole lists p) (q_whole : IsWhole lists q)
+    (p_numbers : IsPartition p) (q_numbers : IsPartition q) where
+  numbers_at : (n : ℕ) → n < length p → ((x : ℕ) → x < n → slice_index p x ≡ slice_index q x) → slice_index p n ≡ slice_index q n
+  numbers_at n lt before = elim (cases_order (slice_index p n) (slice_index q n)) [
+    | inl e ↦ e
+    | inr other ↦ elim other [
+      | inl less ↦
+          let w = q_numbers.in_order n (slice_index p n) (omega (arith, cells)) less in
+          let shared = (p_whole w.0 n (omega (arith, w.1)) lt).0 (before w.0 w.1 ∙ w.2) in
+          sym w.2 ∙ (q_whole w.0 n (omega (arith, w.1, cells)) (omega (arith, cells))).1 shared
+      | inr more ↦
+          let w = p_numbers.in_order n (slice_index q n) lt more in
+          let shared = (q_whole w.0 n (omega (arith, w.1, cells)) (omega (arith, cells))).0 (sym (before w.0 w.1) ∙ w.2) in
+          sym ((p_whole w.0 n (omega (arith, w.1)) lt).1 shared) ∙ w.2
+    ]
+  ]
 
-alike : (form : Result Listing FileFault) (p q : Problem) → ReadsForm form p → ReadsForm form q → AreAlike p q
-alike (Err r) p q a b = absurd a
-alike (Ok file) p q a b =
-    let fp = a.stands.complex.faces in
-    let fq = b.stands.complex.faces in
-    let cells : length p.part_of ≡ length q.part_of = a.stands.field.count ∙ fp.count ∙ sym (b.stands.field.count ∙ fq.count) in
-    record {
-      labels = a.stands.complex.complex.labels ∙ sym b.stands.complex.complex.labels;
-      parts = λ x y. (whole_alike _ p.part_of q.part_of cells a.stands.parts b.stands.parts x y, whole_alike _ q.part_of p.part_of (sym cells) b.stands.parts a.stands.parts x y);
-      count = fp.count ∙ sym fq.count;
-      steps = λ x y. ((λ s. (fq.steps x y).1 ((fp.steps x y).0 s)), (λ s. (fp.steps x y).1 ((fq.steps x y).0 s)));
-    }
+  numbers_below : (n : ℕ) → n ≤ length p → (x : ℕ) → x < n → slice_index p x ≡ slice_index q x
+  numbers_below zero le x lt = absurd (omega arith)
+  numbers_below (suc n) le x lt = elim (cases_order x n) [
+    | inl e ↦ subst (λ i. slice_index p i ≡ slice_index q i) (sym e) (numbers_at n (omega arith) (numbers_below n (omega arith)))
+    | inr other ↦ elim other [ inl less ↦ numbers_below n (omega arith) x less | inr more ↦ absurd (omega arith) ]
+  ]
 
-pub read_alike : (bytes : List ℕ) (p q : Problem) → Reads bytes p → Reads bytes q → AreAlike p q
-read_alike bytes p q a b = alike (form_of bytes) p q a b
+  parts_once : p ≡ q
+  parts_once = same_number_lists p q cells (λ k lt. numbers_below (length p) (omega arith) k lt)
+
+-- problems with equal order, complex and parts are equal
+problem_of : ℕ → Layout → List ℕ → Problem
+problem_of order complex part_of = record { order = order; complex = complex; part_of = part_of }
+
+problem_once : (p q : Problem) → p.order ≡ q.order → p.complex ≡ q.complex → p.part_of ≡ q.part_of → p ≡ q
+unfolding problem_of
+problem_once p q order complex part_of = let same : problem_of p.order p.complex p.part_of ≡ problem_of q.order q.complex q.part_of = cc in same
+
+listed_once : (form : Result Listing FileFault) (p q : Problem) → ReadsForm form p → ReadsForm form q → p ≡ q
+listed_once (Err r) p q a b = absurd a
+listed_once (Ok file) p q a b =
+    let first = a.stands.complex in
+    let second = b.stands.complex in
+    let cells : length p.part_of ≡ length q.part_of = a.stands.field.count ∙ first.faces.count ∙ sym (b.stands.field.count ∙ second.faces.count) in
+    let first_laws : IsLayout (scalars_of file) p.complex = subst (λ order. IsLayout (residues order) p.complex) first.order first.laws in
+    let second_laws : IsLayout (scalars_of file) q.complex = subst (λ order. IsLayout (residues order) q.complex) second.order second.laws in
+    problem_once p q
+    (first.order ∙ sym second.order)
+    (complex_once (scalars_of file) (complex_of file) p.complex q.complex first_laws second_laws first.complex second.complex)
+    (parts_once (parts_of file) p.part_of q.part_of cells a.stands.parts b.stands.parts a.stands.numbering b.stands.numbering)
+
+pub read_once : (bytes : List ℕ) (p q : Problem) → Reads bytes p → Reads bytes q → p ≡ q
+read_once bytes p q a b = listed_once (form_of bytes) p q a b
+
+-- ---- what holds of a problem that is read
+
+listed_sound : (form : Result Listing FileFault) (p : Problem) → ReadsForm form p → IsSound p
+listed_sound (Err r) p a = absurd a
+listed_sound (Ok file) p a = record { laws = a.stands.complex.laws; field = a.stands.field; partition = a.stands.numbering }
+
+pub read_sound : (bytes : List ℕ) (p : Problem) → Reads bytes p → IsSound p
+read_sound bytes p a = listed_sound (form_of bytes) p a
+
+-- an order that isn't refused is one of the table
+in_table : (order : ℕ) (b : Bool) → is_prime_order order ≡ b → ¬ (b ≡ false) → IsField (residues order)
+in_table order true e ne = residues-IsField order e
+in_table order false e ne = absurd (ne refl)
+
+listed_prime : (form : Result Listing FileFault) (p : Problem) → ReadsForm form p → IsField (residues p.order)
+listed_prime (Err r) p a = absurd a
+listed_prime (Ok file) p a =
+    let field = in_table file.scalars (is_prime_order file.scalars) refl (λ e. a.accepted (UnknownField file.scalars) (refl, e)) in
+    subst (λ order. IsField (residues order)) (sym a.stands.complex.order) field
+
+pub read_prime : (bytes : List ℕ) (p : Problem) → Reads bytes p → IsField (residues p.order)
+read_prime bytes p a = listed_prime (form_of bytes) p a

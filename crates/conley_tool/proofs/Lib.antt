@@ -1,5 +1,5 @@
+pub mod SpacedLemmas
 pub mod PieceLemmas
-pub mod DueLemmas
 pub mod ClassLemmas
 pub mod LineLemmas
 pub mod OneDueLemmas

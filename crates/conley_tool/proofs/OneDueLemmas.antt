@@ -4,56 +4,42 @@ use Rattle.std.specs.Prelude.{slice_index}
 use Rattle.std.proofs.lemmas.Bool.{cases_order}
 use Rattle.std.proofs.lemmas.Grind.{same_number_lists}
 use Rattle.conley_outside.specs.Depot.{Files}
-use Rattle.conley_walk.specs.Walk.{Reaches}
-use Rattle.conley_walk.specs.Lists.{ListedStep}
-use Rattle.conley_walk.proofs.WalkLemmas.{reaches_itself, reaches_on, reaches_by_step, reaches_least}
-use Rattle.conley_walk.proofs.WalkLemmas.{reaches_more}
+use Rattle.conley_field.specs.Arithmetic.{IsField}
+use Rattle.conley_field.specs.Prime.{residues}
+use Rattle.conley_lefschetz.specs.Conley.{AreConleyNumbers}
+use Rattle.conley_lefschetz.proofs.ConleyLemmas.{numbers_are_one}
+use Rattle.conley_transitions.specs.Morse.{set_at}
+use Rattle.conley_morse.specs.Covers.{AreCovers}
+use Rattle.conley_morse.specs.Decomposition.{field_of}
+use Rattle.conley_morse.proofs.OnceLemmas.{finest_once, covers_once, numbers_once}
 use Rattle.conley_input.specs.Problem.{Problem}
-use Rattle.conley_input.proofs.OnceLemmas.{AreAlike, refused_once, not_refused_and_read, read_alike}
-use Rattle.conley_transitions.specs.Field.{AreRecurrent}
-use Rattle.conley_tool.specs.Recurrence.{StepsOf, AreRecurrenceClasses}
-use Rattle.conley_tool.specs.Texts.{IsClassesText, lines_of}
-use Rattle.conley_tool.specs.Words.{Command, classes}
-use Rattle.conley_tool.specs.Headline.{Due, refused, prints, Fetched, held, ends, fetched, AfterFetch, AfterProblem, PrintsClasses, IsDue}
+use Rattle.conley_input.proofs.OnceLemmas.{refused_once, not_refused_and_read, read_once, read_prime}
+use Rattle.conley_tool.specs.Recurrence.{AreRecurrenceClasses}
+use Rattle.conley_tool.specs.Texts.{lines_of}
+use Rattle.conley_tool.specs.MorseText.{MorseGraph, IsMorseGraphOf, morse_lines}
+use Rattle.conley_tool.specs.Words.{Command, on_file}
+use Rattle.conley_tool.specs.Headline.{Due, refused, prints, Fetched, held, ends, fetched, AfterFetch, AfterProblem, PrintsClasses, IsDueOn, IsDue}
+use Rattle.conley_tool.specs.declared.words.Verb.{Verb}
+use Rattle.conley_tool.specs.declared.words.Verb.TheVariants.{Classes, Morse}
 use Rattle.conley_tool.specs.declared.TheConstants.{FILE_LIMIT}
-use Rattle.conley_tool.specs.declared.outcome.Fault.TheVariants.{File}
+use Rattle.conley_tool.specs.declared.outcome.Fault.TheVariants as fault
 
--- alike problems have the same steps, so the same reach
-module _ (p q : Problem) (same : AreAlike p q) where
-  step_alike : (x y : ℕ) → StepsOf p x y → StepsOf q x y
-  step_alike x y (inl f) = inl (record { cell = omega (arith, f.cell, same.count); walk = reaches_more {Step = ListedStep p.complex.faces} {Other = ListedStep q.complex.faces} (λ a b. (same.steps a b).0) f.walk })
-  step_alike x y (inr s) = inr ((same.parts x y).0 s)
-
-  reach_alike : (x y : ℕ) → Reaches (StepsOf p) x y → Reaches (StepsOf q) x y
-  reach_alike x y r = reaches_least (Reaches (StepsOf q) x) (λ a b s t. reaches_on t (reaches_by_step {Step = StepsOf q} {x = a} {y = b} (step_alike a b s))) r (reaches_itself x)
-
-  pub recurrent_alike : (x y : ℕ) → AreRecurrent (StepsOf p) x y → AreRecurrent (StepsOf q) x y
-  recurrent_alike x y r = record { there = reach_alike x y r.there; back = reach_alike y x r.back }
-
-pub alike_back : (p q : Problem) → AreAlike p q → AreAlike q p
-alike_back p q same = record { labels = sym same.labels; parts = λ x y. ((same.parts x y).1, (same.parts x y).0); count = sym same.count; steps = λ x y. ((same.steps x y).1, (same.steps x y).0) }
-
--- the numbers of two numberings agree, cell by cell
-module _ (p q : Problem) (same : AreAlike p q) (c d : List ℕ) (cs : AreRecurrenceClasses p c) (ds : AreRecurrenceClasses q d) where
-  cells : length p.complex.labels ≡ length q.complex.labels
-  cells = ap length same.labels
-
+-- the numbers of two numberings of the recurrence classes agree, cell by cell
+module _ (p : Problem) (c d : List ℕ) (cs : AreRecurrenceClasses p c) (ds : AreRecurrenceClasses p d) where
   numbers_at : (n : ℕ) → n < length p.complex.labels → ((x : ℕ) → x < n → slice_index c x ≡ slice_index d x) → slice_index c n ≡ slice_index d n
   numbers_at n lt before = elim (cases_order (slice_index c n) (slice_index d n)) [
     | inl e ↦ e
     | inr other ↦ elim other [
       | inl less ↦
-          let w = ds.in_order n (slice_index c n) (omega (arith, cells)) less in
+          let w = ds.in_order n (slice_index c n) lt less in
           let e : slice_index c w.0 ≡ slice_index c n = before w.0 w.1 ∙ w.2 in
           let r = (cs.same w.0 n (omega (arith, w.1)) lt).0 e in
-          let e' : slice_index d w.0 ≡ slice_index d n = (ds.same w.0 n (omega (arith, w.1, cells)) (omega (arith, cells))).1 (recurrent_alike p q same w.0 n r) in
-          sym w.2 ∙ e'
+          sym w.2 ∙ (ds.same w.0 n (omega (arith, w.1)) lt).1 r
       | inr more ↦
           let w = cs.in_order n (slice_index d n) lt more in
           let e : slice_index d w.0 ≡ slice_index d n = sym (before w.0 w.1) ∙ w.2 in
-          let r = (ds.same w.0 n (omega (arith, w.1, cells)) (omega (arith, cells))).0 e in
-          let e' : slice_index c w.0 ≡ slice_index c n = (cs.same w.0 n (omega (arith, w.1)) lt).1 (recurrent_alike q p (alike_back p q same) w.0 n r) in
-          sym e' ∙ w.2
+          let r = (ds.same w.0 n (omega (arith, w.1)) lt).0 e in
+          sym ((cs.same w.0 n (omega (arith, w.1)) lt).1 r) ∙ w.2
     ]
   ]
 
@@ -64,26 +50,50 @@ module _ (p q : Problem) (same : AreAlike p q) (c d : List ℕ) (cs : AreRecurre
     | inr other ↦ elim other [ inl less ↦ numbers_below n (omega arith) x less | inr more ↦ absurd (omega arith) ]
   ]
 
-  pub numbers_alike : c ≡ d
-  numbers_alike = same_number_lists c d (cs.count ∙ cells ∙ sym ds.count) (λ k lt. numbers_below (length p.complex.labels) (omega arith) k (omega (arith, lt, cs.count)))
+  class_numbers_once : c ≡ d
+  class_numbers_once = same_number_lists c d (cs.count ∙ sym ds.count) (λ k lt. numbers_below (length p.complex.labels) (omega arith) k (omega (arith, lt, cs.count)))
 
-pub text_once : (p q : Problem) → AreAlike p q → (s t : List ℕ) → IsClassesText p s → IsClassesText q t → s ≡ t
-text_once p q same s t a b =
-    let e : a.0 ≡ b.0 = numbers_alike p q same a.0 b.0 a.1 b.1 in
-    a.2 ∙ ap (λ labels. lines_of labels a.0) same.labels ∙ ap (λ c. lines_of q.complex.labels c) e ∙ sym b.2
+classes_once : (p : Problem) (a b : Due) → PrintsClasses p a → PrintsClasses p b → a ≡ b
+classes_once p a b r s =
+    let e : r.1.0 ≡ s.1.0 = class_numbers_once p r.1.0 s.1.0 r.1.1 s.1.1 in
+    r.2 ∙ ap prints (r.1.2 ∙ ap (λ c. lines_of p.complex.labels c) e ∙ sym s.1.2) ∙ sym s.2
 
-after_problem_once : (bytes : List ℕ) (a b : Due) → AfterProblem bytes (λ problem. PrintsClasses problem) a → AfterProblem bytes (λ problem. PrintsClasses problem) b → a ≡ b
-after_problem_once bytes a b (inl r) (inl s) = r.2 ∙ ap (λ f. refused (File f)) (refused_once bytes r.0 s.0 r.1 s.1) ∙ sym s.2
-after_problem_once bytes a b (inl r) (inr s) = absurd (not_refused_and_read bytes r.0 s.0 r.1 s.1)
-after_problem_once bytes a b (inr r) (inl s) = absurd (not_refused_and_read bytes s.0 r.0 s.1 r.1)
-after_problem_once bytes a b (inr r) (inr s) =
-    let e : r.2.0 ≡ s.2.0 = text_once r.0 s.0 (read_alike bytes r.0 s.0 r.1 s.1) r.2.0 s.2.0 r.2.1 s.2.1 in
-    r.2.2 ∙ ap (λ t. prints t) e ∙ sym s.2.2
+-- the lines of two graphs agree
+graph_lines_once : (p : Problem) → IsField (residues p.order) → (g h : MorseGraph) → IsMorseGraphOf p g → IsMorseGraphOf p h → morse_lines p.complex.labels g ≡ morse_lines p.complex.labels h
+graph_lines_once p laws g h is_g is_h =
+    let F = residues p.order in
+    let sets : g.sets ≡ h.sets = finest_once p.complex p.part_of g.sets h.sets is_g.sets is_h.sets in
+    let conley = subst (λ (ss : List (List ℕ)). (i : ℕ) → i < length ss → AreConleyNumbers F p.complex (set_at ss i) (set_at h.numbers i)) (sym sets) is_h.numbers in
+    let numbers : g.numbers ≡ h.numbers = numbers_once p.complex g.sets g.numbers h.numbers (numbers_are_one laws p.complex) is_g.numbers_count (is_h.numbers_count ∙ ap length (sym sets)) is_g.numbers conley in
+    let covers = subst (λ (ss : List (List ℕ)). AreCovers (field_of F p.complex p.part_of) ss h.order) (sym sets) is_h.order in
+    let order : g.order ≡ h.order = covers_once (field_of F p.complex p.part_of) g.sets g.order h.order is_g.order covers in
+    let lines : List (List ℕ) → List (List ℕ) → List (ℕ × ℕ) → List ℕ = λ ss ns os. morse_lines p.complex.labels (record { sets = ss; numbers = ns; order = os }) in
+    ap (λ ss. lines ss g.numbers g.order) sets ∙ ap (λ ns. lines h.sets ns g.order) numbers ∙ ap (λ os. lines h.sets h.numbers os) order
 
-after_fetch_once : (result : Fetched) (a b : Due) → AfterFetch result (λ bytes. AfterProblem bytes (λ problem. PrintsClasses problem)) a → AfterFetch result (λ bytes. AfterProblem bytes (λ problem. PrintsClasses problem)) b → a ≡ b
-after_fetch_once (held bytes) a b r s = after_problem_once bytes a b r s
-after_fetch_once (ends this) a b r s = r ∙ sym s
+morse_once : (p : Problem) → IsField (residues p.order) → (a b : Due) → IsDueOn Morse p a → IsDueOn Morse p b → a ≡ b
+morse_once p laws a b (inl r) (inl s) =
+    let e = ap length (finest_once p.complex p.part_of r.1.1.0 s.1.1.0 r.1.1.1 s.1.1.1) in
+    r.2 ∙ ap (λ n. refused (fault.Morse n)) (sym r.1.1.2 ∙ e ∙ s.1.1.2) ∙ sym s.2
+morse_once p laws a b (inl r) (inr s) = let e = ap length (finest_once p.complex p.part_of r.1.1.0 s.0.sets r.1.1.1 s.1.sets) in absurd (omega (arith, e, r.1.0, r.1.1.2, s.2))
+morse_once p laws a b (inr r) (inl s) = let e = ap length (finest_once p.complex p.part_of s.1.1.0 r.0.sets s.1.1.1 r.1.sets) in absurd (omega (arith, e, s.1.0, s.1.1.2, r.2))
+morse_once p laws a b (inr r) (inr s) = r.3 ∙ ap prints (graph_lines_once p laws r.0 s.0 r.1 s.1) ∙ sym s.3
+
+due_on_once : (verb : Verb) (p : Problem) → IsField (residues p.order) → (a b : Due) → IsDueOn verb p a → IsDueOn verb p b → a ≡ b
+due_on_once Classes p laws a b r s = classes_once p a b r s
+due_on_once Morse p laws a b r s = morse_once p laws a b r s
+
+after_problem_once : (verb : Verb) (bytes : List ℕ) (a b : Due) → AfterProblem bytes (IsDueOn verb) a → AfterProblem bytes (IsDueOn verb) b → a ≡ b
+after_problem_once verb bytes a b (inl r) (inl s) = r.2 ∙ ap (λ f. refused (fault.File f)) (refused_once bytes r.0 s.0 r.1 s.1) ∙ sym s.2
+after_problem_once verb bytes a b (inl r) (inr s) = absurd (not_refused_and_read bytes r.0 s.0 r.1 s.1)
+after_problem_once verb bytes a b (inr r) (inl s) = absurd (not_refused_and_read bytes s.0 r.0 s.1 r.1)
+after_problem_once verb bytes a b (inr r) (inr s) =
+    let is = subst (λ (p : Problem). IsDueOn verb p b) (sym (read_once bytes r.0 s.0 r.1 s.1)) s.2 in
+    due_on_once verb r.0 (read_prime bytes r.0 r.1) a b r.2 is
+
+after_fetch_once : (verb : Verb) (result : Fetched) (a b : Due) → AfterFetch result (λ bytes. AfterProblem bytes (IsDueOn verb)) a → AfterFetch result (λ bytes. AfterProblem bytes (IsDueOn verb)) b → a ≡ b
+after_fetch_once verb (held bytes) a b r s = after_problem_once verb bytes a b r s
+after_fetch_once verb (ends this) a b r s = r ∙ sym s
 
 pub due_once : (files : Files) (command : Option Command) (a b : Due) → IsDue files command a → IsDue files command b → a ≡ b
 due_once files None a b r s = r ∙ sym s
-due_once files (Some (classes file)) a b r s = after_fetch_once (fetched files file FILE_LIMIT) a b r s
+due_once files (Some (on_file verb file)) a b r s = after_fetch_once verb (fetched files file FILE_LIMIT) a b r s

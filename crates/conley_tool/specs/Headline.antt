@@ -1,16 +1,25 @@
 -- What a run comes to, by its words and by what the depot tells.
 --     Due                            what is due, memory and faults of the outside apart
 --     fetched files name limit       what a fetch comes to: a function, since lists decide
+--     PrintsClasses problem what     the text of the recurrence classes
+--     RefusesSets problem what       more than 2,000 Morse sets are refused
+--     PrintsMorse problem what       the text of the Morse sets
+--     IsDueOn verb problem what      what is due for a problem
 --     IsDue files command what       `what` is due: a relation, since walks decide; at most one thing is due
 -- Outcomes.antt beside this file has the outcome that is due, and the cause of each.
-use Rattle.std.specs.Prelude.{◌≡◌, ◌⊎◌, ℕ, List, length, Option, Some, None, nat_lt, if◌then◌else◌}
+use Rattle.std.specs.Prelude.{◌≡◌, ◌⊎◌, ◌≤◌, ℕ, List, length, Option, Some, None, nat_lt, if◌then◌else◌}
 use Rattle.conley_outside.specs.Depot.{Files}
+use Rattle.conley_field.specs.Prime.{residues}
+use Rattle.conley_morse.specs.Decomposition.{HasTooManySets}
 use Rattle.conley_input.specs.Problem.{Problem, Reads, Refuses}
 use Rattle.conley_input.specs.declared.error.FileFault.{FileFault}
-use Rattle.conley_tool.specs.Words.{Command, classes}
+use Rattle.conley_tool.specs.Words.{Command, on_file}
 use Rattle.conley_tool.specs.Texts.{IsClassesText}
+use Rattle.conley_tool.specs.MorseText.{MorseGraph, IsMorseGraphOf, morse_lines}
+use Rattle.conley_tool.specs.declared.words.Verb.{Verb}
+use Rattle.conley_tool.specs.declared.words.Verb.TheVariants.{Classes, Morse}
 use Rattle.conley_tool.specs.declared.outcome.Fault.{Fault}
-use Rattle.conley_tool.specs.declared.outcome.Fault.TheVariants.{File}
+use Rattle.conley_tool.specs.declared.outcome.Fault.TheVariants as fault
 use Rattle.conley_tool.specs.declared.TheConstants.{FILE_LIMIT}
 
 -- what is due, memory and faults of the outside apart
@@ -52,15 +61,25 @@ AfterFetch (ends this) Next what = what ≡ this
 -- the bytes are refused, or they stand for a problem
 abbrev pub AfterProblem : List ℕ → (Problem → Due → Type 0) → Due → Type 0
 AfterProblem bytes Next what =
-    ((fault : FileFault) × Refuses bytes fault × (what ≡ refused (File fault)))
+    ((of_file : FileFault) × Refuses bytes of_file × (what ≡ refused (fault.File of_file)))
     ⊎ ((problem : Problem) × Reads bytes problem × Next problem what)
 
 abbrev pub PrintsClasses : Problem → Due → Type 0
 PrintsClasses problem what = (text : List ℕ) × IsClassesText problem text × (what ≡ prints text)
 
+abbrev pub RefusesSets : Problem → Due → Type 0
+RefusesSets problem what = (count : ℕ) × HasTooManySets (residues problem.order) problem.complex problem.part_of count × (what ≡ refused (fault.Morse count))
+
+abbrev pub PrintsMorse : Problem → Due → Type 0
+PrintsMorse problem what = (graph : MorseGraph) × IsMorseGraphOf problem graph × (length graph.sets ≤ 2000) × (what ≡ prints (morse_lines problem.complex.labels graph))
+
+-- what is due for a problem
+abbrev pub IsDueOn : Verb → Problem → Due → Type 0
+IsDueOn Classes problem what = PrintsClasses problem what
+IsDueOn Morse problem what = RefusesSets problem what ⊎ PrintsMorse problem what
+
 abbrev pub IsDueOf : Files → Command → Due → Type 0
-IsDueOf files (classes file) what =
-    AfterFetch (fetched files file FILE_LIMIT) (λ bytes. AfterProblem bytes (λ problem. PrintsClasses problem)) what
+IsDueOf files (on_file verb file) what = AfterFetch (fetched files file FILE_LIMIT) (λ bytes. AfterProblem bytes (IsDueOn verb)) what
 
 abbrev pub IsDue : Files → Option Command → Due → Type 0
 IsDue files None what = what ≡ usage

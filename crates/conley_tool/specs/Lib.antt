@@ -1,7 +1,10 @@
 pub mod Words
 pub mod Recurrence
 pub mod Texts
+pub mod MorseText
+pub mod Graph
 pub mod Members
+pub mod Spaced
 pub mod Line
 pub mod Headline
 pub mod Outcomes

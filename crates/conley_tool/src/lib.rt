@@ -6,6 +6,7 @@
 
 mod classes;
 mod laws;
+mod morse;
 mod outcome;
 mod put;
 mod refusal;

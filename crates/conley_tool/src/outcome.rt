@@ -2,14 +2,18 @@
 
 ghost use Rattle.std.specs.Prelude.{◌≡◌};
 ghost use Rattle.conley_tool.specs.Line.{status_of};
+ghost use Rattle.conley_tool.specs.declared.outcome.Outcome.TheVariants.{NoMemory};
 
 use conley_input::FileFault;
+use std::alloc::AllocError;
 
 /// Why the input of a run is refused.
 #[derive(Clone, Copy, Debug, PartialEq, Eq)]
 pub enum Fault {
     /// The file of the problem is refused.
     File(FileFault),
+    /// There are so many Morse sets, more than 2,000.
+    Morse(u32),
 }
 
 /// What a run came to.
@@ -29,6 +33,14 @@ pub enum Outcome {
     WriteFault,
     /// Memory is wanting.
     NoMemory,
+}
+
+impl From<AllocError> for Outcome {
+    ghost from_gives = { λ _ o. o ≡ NoMemory };
+
+    fn from(_error: AllocError) -> Outcome {
+        Outcome::NoMemory
+    }
 }
 
 impl Outcome {

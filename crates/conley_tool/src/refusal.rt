@@ -21,7 +21,7 @@ fn put_name<E: Sink>(err: &mut E, name: &[u8]) -> Result<(), Failed>
 }
 
 /// Puts the line of a refusal with one number.
-fn put_one<E: Sink>(err: &mut E, name: &[u8], a: u64) -> Result<(), Failed>
+pub(crate) fn put_one<E: Sink>(err: &mut E, name: &[u8], a: u64) -> Result<(), Failed>
     ensures ok { OnOk result (E.written err.new ≡ gains (E.written err.old) (line (codes "refused" ∷ name.now ∷ decimal a ∷ []))) }
     ensures err { OnErr result (GainsPrefix (E.written err.old) (line (codes "refused" ∷ name.now ∷ decimal a ∷ [])) (E.written err.new)) }
     ensures cause { HasCause (E.faults err.old) (E.faults err.new) result }

@@ -6,7 +6,7 @@ ghost use Rattle.conley_outside.specs.Sink.{gains, GainsPrefix};
 ghost use Rattle.conley_tool.specs.Line.{line_of};
 
 use crate::put::put_pieces;
-use crate::refusal::report_file;
+use crate::refusal::{put_one, report_file};
 use crate::{Fault, Outcome};
 use conley_outside::{Failed, Sink};
 
@@ -19,7 +19,11 @@ pub(crate) fn report<E: Sink>(outcome: &Outcome, err: &mut E) -> Result<(), Fail
     match outcome {
         Outcome::Done => put_pieces(err, &[]),
         Outcome::Refused(Fault::File(fault)) => report_file(fault, err),
-        Outcome::Usage => put_pieces(err, &[b"usage: conley classes FILE\n".as_slice()]),
+        Outcome::Refused(Fault::Morse(count)) => put_one(err, b"E14", *count as u64),
+        Outcome::Usage => put_pieces(
+            err,
+            &[b"usage: conley classes FILE | morse FILE\n".as_slice()],
+        ),
         Outcome::ReadFault => put_pieces(err, &[b"read fault\n".as_slice()]),
         Outcome::TooLong => put_pieces(err, &[b"too long\n".as_slice()]),
         Outcome::WriteFault => put_pieces(err, &[b"write fault\n".as_slice()]),

@@ -3,15 +3,18 @@
 ghost use Rattle.std.specs.Prelude.{◌≡◌, ◌⊎◌, ◌≤◌, List, ℕ, map, None, Some, IfOk, IfErr, OnSome, string_bytes};
 ghost use Rattle.conley_outside.specs.Faults.{Rose};
 ghost use Rattle.conley_outside.specs.Sink.{gains, GainsPrefix};
-ghost use Rattle.conley_tool.specs.Words.{classes, command_of};
+ghost use Rattle.conley_input.specs.Problem.{IsSound};
+ghost use Rattle.conley_input.specs.ProblemMeaning.{meaning_of};
+ghost use Rattle.conley_tool.specs.Words.{on_file, command_of};
 ghost use Rattle.conley_tool.specs.Line.{line_of};
-ghost use Rattle.conley_tool.specs.Headline.{held, fetched, IsDue, IsDueOf};
-ghost use Rattle.conley_tool.specs.Outcomes.{FetchCause, HasCause, Gains, IsAnswer};
+ghost use Rattle.conley_tool.specs.Headline.{held, prints, fetched, IsDueOn, IsDue, IsDueOf};
+ghost use Rattle.conley_tool.specs.Outcomes.{FetchCause, ProblemCause, TextCause, EndCause, Stands, MayBe, HasCause, Gains, IsAnswer};
 
 use crate::classes::classes_text;
+use crate::morse::morse_text;
 use crate::put::put_all;
 use crate::report::report;
-use crate::words::parse_words;
+use crate::words::{Verb, parse_words};
 use crate::{FILE_LIMIT, Fault, Outcome};
 use conley_input::{InputError, Problem};
 use conley_outside::{Depot, FetchError, Sink};
@@ -38,33 +41,49 @@ fn read_file<D: Depot>(
     }
 }
 
-/// The command `classes FILE`. The whole text is made before the first byte is put.
-fn run_classes<D: Depot, O: Sink>(alloc: Global, name: &str, depot: &mut D, out: &mut O) -> Outcome
-    ensures cause { HasCause (IsDueOf (D.files depot.old) (classes name.now))
-        (Rose (D.faults depot.old) (D.faults depot.new)) (Rose (O.faults out.old) (O.faults out.new)) result }
-    ensures gains { Gains (IsDueOf (D.files depot.old) (classes name.now)) (O.written out.old) (O.written out.new) result }
+/// The problem in a file, or the outcome that ends the run.
+fn read_problem<D: Depot>(alloc: Global, name: &str, depot: &mut D) -> Result<Problem, Outcome>
+    ensures ok { IfOk result (λ problem. OnSome (D.files depot.old) (Stands (fetched (D.files depot.old) name.now FILE_LIMIT) (meaning_of problem))) }
+    ensures sound { IfOk result (λ problem. IsSound (meaning_of problem)) }
+    ensures err { IfErr result (ProblemCause (fetched (D.files depot.old) name.now FILE_LIMIT) (Rose (D.faults depot.old) (D.faults depot.new))) }
     ensures same_files { D.files depot.new ≡ D.files depot.old }
 {
-    let bytes = match read_file(alloc, name, FILE_LIMIT, depot) {
-        Ok(bytes) => bytes,
-        Err(outcome) => return outcome,
-    };
-    let problem = match Problem::from_json(alloc, &bytes) {
-        Ok(problem) => problem,
-        Err(InputError::Bad(fault)) => return Outcome::Refused(Fault::File(fault)),
-        Err(InputError::NoMemory) => return Outcome::NoMemory,
-    };
-    let text = match classes_text(alloc, &problem) {
-        Ok(text) => text,
-        Err(_) => return Outcome::NoMemory,
-    };
-    match put_all(out, &text) {
-        Ok(()) => Outcome::Done,
-        Err(_) => Outcome::WriteFault,
+    let bytes = read_file(alloc, name, FILE_LIMIT, depot)?;
+    match Problem::from_json(alloc, &bytes) {
+        Ok(problem) => Ok(problem),
+        Err(InputError::Bad(fault)) => Err(Outcome::Refused(Fault::File(fault))),
+        Err(InputError::NoMemory) => Err(Outcome::NoMemory),
     }
 }
 
-/// All of a run but the line on `err`.
+/// The text that is asked of a problem, or the outcome that ends the run.
+fn text_of(alloc: Global, verb: Verb, problem: &Problem) -> Result<Vec<u8>, Outcome>
+    requires { IsSound (meaning_of problem.now) }
+    ensures ok { IfOk result (λ text. IsDueOn verb (meaning_of problem.now) (prints text.items)) }
+    ensures err { IfErr result (TextCause (IsDueOn verb (meaning_of problem.now))) }
+{
+    match verb {
+        Verb::Classes => Ok(classes_text(alloc, problem)?),
+        Verb::Morse => morse_text(alloc, problem),
+    }
+}
+
+/// The text that is asked of the problem in a file, or the outcome that ends the run.
+fn answer<D: Depot>(
+    alloc: Global,
+    verb: Verb,
+    name: &str,
+    depot: &mut D,
+) -> Result<Vec<u8>, Outcome>
+    ensures ok { IfOk result (λ text. MayBe (IsDueOf (D.files depot.old) (on_file verb name.now)) (prints text.items)) }
+    ensures err { IfErr result (EndCause (IsDueOf (D.files depot.old) (on_file verb name.now)) (Rose (D.faults depot.old) (D.faults depot.new))) }
+    ensures same_files { D.files depot.new ≡ D.files depot.old }
+{
+    let problem = read_problem(alloc, name, depot)?;
+    text_of(alloc, verb, &problem)
+}
+
+/// All of a run but the line on `err`. The whole text is made before the first byte is put.
 fn outcome_of<D: Depot, O: Sink>(
     alloc: Global,
     words: &[String],
@@ -77,13 +96,21 @@ fn outcome_of<D: Depot, O: Sink>(
     ensures gains { Gains (IsDue (D.files depot.old) (command_of (map string_bytes words.now))) (O.written out.old) (O.written out.new) result }
     ensures same_files { D.files depot.new ≡ D.files depot.old }
 {
-    match parse_words(words) {
-        None => Outcome::Usage,
-        Some(name) => run_classes(alloc, name, depot, out),
+    let Some((verb, name)) = parse_words(words) else {
+        return Outcome::Usage;
+    };
+    let text = match answer(alloc, verb, name, depot) {
+        Ok(text) => text,
+        Err(outcome) => return outcome,
+    };
+    match put_all(out, &text) {
+        Ok(()) => Outcome::Done,
+        Err(_) => Outcome::WriteFault,
     }
 }
 
-/// Runs the command that the words name: `classes FILE`, which prints the recurrence classes of the problem in FILE.
+/// Runs the command that the words name: `classes FILE`, which prints the recurrence classes of the problem in FILE,
+/// or `morse FILE`, which prints its Morse sets with their Conley indices, and the order of the sets.
 /// Its text goes to `out`, and for any outcome but `Done` one line to `err`; a fault of `err` changes no outcome.
 pub fn run<D: Depot, O: Sink, E: Sink>(
     alloc: Global,

@@ -5,6 +5,8 @@
 
 mod four_elements;
 #[cfg(test)]
+mod morse_runs;
+#[cfg(test)]
 mod runs;
 #[cfg(test)]
 mod surfaces;

@@ -1,4 +1,4 @@
-//! Whole runs of the program, over files in memory.
+//! Whole runs of `classes FILE`, and of words without a form, over files in memory.
 
 use conley_outside::{MemoryDepot, MemorySink};
 use conley_tool::{Outcome, run};
@@ -6,8 +6,8 @@ use std::alloc::{AllocError, Global};
 use std::process::Abort;
 use std::test::Fail;
 
-/// A file, the status, and what `classes FILE` puts on `out` and on `err`.
-type Row = (&'static str, u8, &'static str, &'static str);
+/// A file, the status, and what a command puts on `out` and on `err`.
+pub(crate) type Row = (&'static str, u8, &'static str, &'static str);
 
 /// Files that stand for problems.
 const PRINTED: [Row; 6] = [
@@ -56,7 +56,7 @@ const PRINTED: [Row; 6] = [
 ];
 
 /// Files that are refused. Where two faults stand in a file, the earlier is told.
-const REFUSED: [Row; 32] = [
+pub(crate) const REFUSED: [Row; 32] = [
     // Cut.
     (
         "{\"version\":1,\"scalars\":2,\"complex\":{\"kind\":\"lefsch",
@@ -279,7 +279,7 @@ const REFUSED: [Row; 32] = [
 ];
 
 /// The words of a command line.
-fn words_of(alloc: Global, texts: &[&str]) -> Result<Vec<String>, AllocError> {
+pub(crate) fn words_of(alloc: Global, texts: &[&str]) -> Result<Vec<String>, AllocError> {
     let mut words = Vec::new(alloc);
     for text in texts {
         words.push(String::from_str(alloc, text)?)?;
@@ -287,9 +287,14 @@ fn words_of(alloc: Global, texts: &[&str]) -> Result<Vec<String>, AllocError> {
     Ok(words)
 }
 
-/// Runs each row's file under the name `f`.
-fn run_rows<R: Abort>(rt: &R, alloc: Global, rows: &[Row]) -> Result<(), AllocError> {
-    let words = words_of(alloc, &["classes", "f"])?;
+/// Runs the command on each row's file, under the name `f`.
+pub(crate) fn run_rows<R: Abort>(
+    rt: &R,
+    alloc: Global,
+    command: &str,
+    rows: &[Row],
+) -> Result<(), AllocError> {
+    let words = words_of(alloc, &[command, "f"])?;
     for (file, status, text, line) in rows {
         let mut depot = MemoryDepot::new(alloc);
         depot.add("f", file.as_bytes())?;
@@ -305,19 +310,21 @@ fn run_rows<R: Abort>(rt: &R, alloc: Global, rows: &[Row]) -> Result<(), AllocEr
 
 #[test]
 fn files_are_printed_or_refused(rt: HostRuntime) -> Result<(), Fail> {
-    run_rows(&rt, rt.alloc(), &PRINTED)?;
-    run_rows(&rt, rt.alloc(), &REFUSED)?;
+    run_rows(&rt, rt.alloc(), "classes", &PRINTED)?;
+    run_rows(&rt, rt.alloc(), "classes", &REFUSED)?;
     Ok(())
 }
 
 #[test]
 fn words_without_a_form_are_usage(rt: HostRuntime) -> Result<(), Fail> {
     let alloc = rt.alloc();
-    let rows: [&[&str]; 5] = [
+    let rows: [&[&str]; 7] = [
         &[],
         &["analyze"],
         &["classes"],
         &["classes", "f", "f"],
+        &["morse"],
+        &["morse", "f", "f"],
         &["--help", "f"],
     ];
     for texts in rows {
@@ -330,7 +337,10 @@ fn words_without_a_form_are_usage(rt: HostRuntime) -> Result<(), Fail> {
         assert_eq!(rt; outcome, Outcome::Usage);
         assert_eq!(rt; outcome.status(), 2);
         assert_eq!(rt; out.written(), b"".as_slice());
-        assert_eq!(rt; err.written(), b"usage: conley classes FILE\n".as_slice());
+        assert_eq!(rt;
+            err.written(),
+            b"usage: conley classes FILE | morse FILE\n".as_slice()
+        );
     }
     Ok(())
 }
@@ -406,7 +416,7 @@ fn push_items(
 }
 
 /// The file of this many vertices without parts.
-fn points(alloc: Global, count: u32) -> Result<Vec<u8>, AllocError> {
+pub(crate) fn points(alloc: Global, count: u32) -> Result<Vec<u8>, AllocError> {
     let mut file = Vec::from_slice(
         alloc,
         b"{\"version\":1,\"scalars\":2,\"field\":{\"kind\":\"whole\",\"parts\":[]},\"complex\":{\"kind\":\"lefschetz\",\"incidences\":[],\"cells\":[",

@@ -1,12 +1,13 @@
-use Rattle.std.proofs.Common.{arith, ◌≡◌, ◌∙◌, Err, refl, ap, length}
+use Rattle.std.proofs.Common.{arith, ◌≡◌, ◌∙◌, Err, refl, ap, length, subst}
 use Rattle.std.proofs.lemmas.Result.{err_from_is_err_and}
 use Rattle.conley_field.specs.Arithmetic.{Arithmetic}
 use Rattle.conley_field.specs.AnyField.{arithmetic_of}
+use Rattle.conley_lefschetz.specs.Complex.{IsLayout}
 use Rattle.conley_lefschetz.specs.declared.error.ComplexError.TheVariants.{BadIncidence}
 use Rattle.conley_input.specs.Errors.{file_error}
 use Rattle.conley_input.specs.ListingMeaning.{meaning_of}
 use Rattle.conley_input.specs.declared.error.InputError.TheVariants as InputError
-use Rattle.conley_input.proofs.CellLemmas.{dims_within, faces_of_complex}
+use Rattle.conley_input.proofs.CellLemmas.{arithmetic_of-residues, dims_within, faces_of_complex}
 use Rattle.conley_input.proofs.RefusalLemmas.{clear_cells, first_cells, not_memory}
 use Rattle.conley_input.proofs.TextLemmas.{length-bytes_of}
 use Rattle.conley_input.proofs.cells.read_cells.Goals as goal
@@ -33,6 +34,7 @@ returns-in-Ok-clause-complex c =
     let same : length file.dims ≡ length file.labels = omega (arith, c.requires, length-bytes_of c.args.listing.labels.items) in
     record {
       order = ap (λ f. (arithmetic_of f).order) c.in-Ok.ensures.field ∙ ap (λ (F : Arithmetic). F.order) c.in_ok-field.ensures.field;
+      laws = subst (λ (F : Arithmetic). IsLayout F c.in-Ok.complex.1) (arithmetic_of-residues c.in-Ok.complex.0) c.count-laws.ensures.laws;
       complex = ok;
       faces = faces_of_complex file same (λ k why fails. ok.accepted (BadIncidence k why) fails) _ c.in-Ok.complex.1 c.count-laws.ensures.laws ok.dims ok.boundary;
     }

@@ -22,4 +22,7 @@ returns-clause-ok c =
       faces = cells.faces;
       parts = ap (λ (ps : List (Vec (String Global) Global)). map texts ps) c.deref.ensures.value ∙ c.in_ok-complex.ensures.parts;
     }) c.in_ok-complex.ensures.clear in
-    record { accepted = found.0; stands = record { complex = cells; parts = found.1; field = c.in_ok-partition.ensures.field } }
+    record {
+      accepted = found.0;
+      stands = record { complex = cells; parts = found.1; field = c.in_ok-partition.ensures.field; numbering = c.count-numbers.ensures.partition };
+    }

@@ -1,0 +1,35 @@
+use Rattle.std.proofs.Common.{arith, get_or, ap, subst, inl, inr}
+use Rattle.std.proofs.lemmas.List.Elements.{Contains-get_or}
+use Rattle.conley_walk.specs.Lists.{items_of}
+use Rattle.conley_walk.proofs.ListLemmas.{length-items_of}
+use Rattle.conley_field.specs.Arithmetic.{Arithmetic}
+use Rattle.conley_input.specs.ProblemMeaning.{meaning_of}
+use Rattle.conley_transitions.specs.Morse.{set_at}
+use Rattle.conley_morse.specs.Decomposition.{IsConleyMorseGraph, HasTooManySets}
+use Rattle.conley_tool.specs.Headline.{prints, refused}
+use Rattle.conley_tool.specs.MorseText.{IsMorseGraphOf}
+use Rattle.conley_tool.specs.Graph.{graph_of}
+use Rattle.conley_tool.specs.declared.outcome.Fault.TheVariants.{Morse}
+use Rattle.conley_input.proofs.CellLemmas.{arithmetic_of-residues}
+use Rattle.conley_tool.proofs.morse.morse_text.Goals as goal
+
+pub returns-in-Err-TooManyMorse-clause-err : goal.returns-in-Err-TooManyMorse-clause-err
+returns-in-Err-TooManyMorse-clause-err c =
+    let problem = meaning_of c.args.problem.now in
+    let many = c.in-Err-TooManyMorse.ensures.too_many c.in-Err-TooManyMorse.count (cc) in
+    let sets = subst (λ (F : Arithmetic). HasTooManySets F problem.complex problem.part_of c.in-Err-TooManyMorse.count) (arithmetic_of-residues c.args.problem.now.complex.0) many in
+    inl (c.in-Err-TooManyMorse.count, sets, ap (λ n. refused (Morse n)) c.in-Err-TooManyMorse.count-is)
+
+pub lines_of-requires-clause-cells : goal.lines_of-requires-clause-cells
+lines_of-requires-clause-cells c = λ m lt k d lt'.
+    let sets = items_of c.in-Ok.found.sets.items in
+    let at = (c.in-Ok.ensures.graph.sets.classes.all (get_or (set_at sets m) k d)).0 (m, (omega (arith, lt, length-items_of c.in-Ok.found.sets.items), Contains-get_or (set_at sets m) k d lt')) in
+    omega (arith, at.0, c.requires.field.count, c.requires.laws.complex.faces_count, c.requires.laws.complex.dims_count)
+
+pub returns-clause-ok : goal.returns-clause-ok
+returns-clause-ok c =
+    let found = c.in-Ok.found in
+    let problem = meaning_of c.args.problem.now in
+    let graph : IsMorseGraphOf problem (graph_of found) =
+    subst (λ (F : Arithmetic). IsConleyMorseGraph F problem.complex problem.part_of (items_of found.sets.items) (items_of found.numbers.items) found.order.items) (arithmetic_of-residues c.args.problem.now.complex.0) c.in-Ok.ensures.graph in
+    inr (graph_of found, graph, omega (arith, length-items_of found.sets.items, c.in-Ok.ensures.few), ap prints c.in_ok-lines_of.ensures)
