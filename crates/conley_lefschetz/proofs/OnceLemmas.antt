@@ -1,52 +1,11 @@
 -- At most one complex is that of a listing.
-use Rattle.std.proofs.Common.{◌≡◌, ◌⊎◌, inl, inr, ◌+◌, ◌<◌, ◌≤◌, ℕ, suc, List, [], ◌∷◌, All, length, get_or, refl, sym, ◌∙◌, ap, subst, arith}
-use Rattle.std.specs.Prelude.{Contains, ◌↔◌}
-use Rattle.std.specs.List.Sorted.{IsStrictlyIncreasing}
-use Rattle.std.proofs.lemmas.List.{get_or_default, ext_get_or}
-use Rattle.std.proofs.lemmas.List.Elements.{Contains-append_cases, Contains-append_right, Contains-push_cases}
+use Rattle.std.proofs.Common.{◌≡◌, ◌<◌, ◌≤◌, ℕ, List, [], All, length, get_or, sym, ◌∙◌, ap, subst, arith}
+use Rattle.std.proofs.lemmas.List.{ext_get_or}
 use Rattle.conley_field.specs.Arithmetic.{Arithmetic}
 use Rattle.conley_chains.specs.Matrix.{Table, entry, column_count}
 use Rattle.conley_chains.proofs.EqualLemmas.{same_coefficients}
-use Rattle.conley_walk.proofs.ListLemmas.{Contains-none, rises}
+use Rattle.conley_walk.proofs.AscendingLemmas.{same_numbers}
 use Rattle.conley_lefschetz.specs.Complex.{IsComplex, IsLevels, Layout, ComplexIsOne}
-
--- the first number of an ascending list, and the rest
-Contains-head : (x : ℕ) (xs : List ℕ) → Contains (x ∷ xs) x
-Contains-head x xs = (0, omega arith, refl)
-
-Contains-cases : (x : ℕ) (xs : List ℕ) (y : ℕ) → Contains (x ∷ xs) y → (x ≡ y) ⊎ Contains xs y
-Contains-cases x xs y c = elim (Contains-append_cases (x ∷ []) xs y c) [
-  | inl first ↦ elim (Contains-push_cases [] x y first) [ inl none ↦ Contains-none y none | inr e ↦ inl e ]
-  | inr rest ↦ inr rest
-]
-
-increasing-rest : (x : ℕ) (xs : List ℕ) → IsStrictlyIncreasing (x ∷ xs) → IsStrictlyIncreasing xs
-increasing-rest x xs up k lt = rises (x ∷ xs) up (suc k) (suc (k + 1)) (omega arith) (omega (arith, lt))
-
-rest_above : (x : ℕ) (xs : List ℕ) → IsStrictlyIncreasing (x ∷ xs) → (y : ℕ) → Contains xs y → x < y
-rest_above x xs up y c =
-    let at : get_or xs c.0 0 ≡ y = get_or_default xs c.0 0 y c.1 ∙ c.2 in
-    let step : x < get_or xs c.0 0 = rises (x ∷ xs) up 0 (suc c.0) (omega arith) (omega (arith, c.1)) in
-    omega arith
-
--- ascending lists with the same numbers are one
-pub same_numbers : (a b : List ℕ) → IsStrictlyIncreasing a → IsStrictlyIncreasing b → ((y : ℕ) → Contains a y ↔ Contains b y) → a ≡ b
-same_numbers [] [] up_a up_b same = refl
-same_numbers [] (y ∷ b) up_a up_b same = Contains-none y ((same y).1 (Contains-head y b))
-same_numbers (x ∷ a) [] up_a up_b same = Contains-none x ((same x).0 (Contains-head x a))
-same_numbers (x ∷ a) (y ∷ b) up_a up_b same =
-    let heads : x ≡ y = elim (Contains-cases y b x ((same x).0 (Contains-head x a))) [
-      | inl e ↦ sym e
-      | inr above ↦ elim (Contains-cases x a y ((same y).1 (Contains-head y b))) [
-        | inl e ↦ e
-        | inr below ↦ absurd (omega (arith, rest_above y b up_b x above, rest_above x a up_a y below))
-      ]
-    ] in
-    let rests : a ≡ b = same_numbers a b (increasing-rest x a up_a) (increasing-rest y b up_b) (λ z. (
-      (λ c. elim (Contains-cases y b z ((same z).0 (Contains-append_right (x ∷ []) a z c))) [ inl e ↦ absurd (omega (arith, rest_above x a up_a z c)) | inr rest ↦ rest ]),
-      (λ c. elim (Contains-cases x a z ((same z).1 (Contains-append_right (y ∷ []) b z c))) [ inl e ↦ absurd (omega (arith, rest_above y b up_b z c)) | inr rest ↦ rest ]),
-    )) in
-    cc
 
 -- two least numbers above all dimensions
 levels_once : (dims other : List ℕ) (m n : ℕ) → dims ≡ other → IsLevels dims m → IsLevels other n → m ≡ n

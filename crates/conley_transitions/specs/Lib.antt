@@ -5,3 +5,4 @@ pub mod Lasso
 pub mod Morse
 pub mod Invariant
 pub mod Isolation
+pub mod Laws
