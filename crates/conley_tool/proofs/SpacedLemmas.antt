@@ -6,7 +6,7 @@ use Rattle.std.proofs.lemmas.List.{append-nil}
 use Rattle.std.proofs.lemmas.Grind.{flat_map-append}
 use Rattle.conley_tool.specs.Texts.{labels_of}
 use Rattle.conley_tool.specs.MorseText.{set_line, order_line}
-use Rattle.conley_tool.specs.Spaced.{spaced}
+use Rattle.conley_tool.specs.MorseMaking.{spaced}
 
 pub join_spaced : (word : List ℕ) (words : List (List ℕ)) → join_with_byte 32 (word ∷ words) ≡ word ++ spaced words
 join_spaced word [] = sym (append-nil word)

@@ -2,9 +2,9 @@ pub mod Words
 pub mod Recurrence
 pub mod Texts
 pub mod MorseText
-pub mod Graph
+pub mod MorseMaking
 pub mod Members
-pub mod Spaced
 pub mod Line
 pub mod Headline
 pub mod Outcomes
+pub mod Ends

@@ -6,9 +6,9 @@ ghost use Rattle.conley_transitions.specs.Morse.{set_at};
 ghost use Rattle.conley_input.specs.Problem.{IsSound};
 ghost use Rattle.conley_input.specs.ProblemMeaning.{meaning_of};
 ghost use Rattle.conley_tool.specs.MorseText.{morse_lines};
-ghost use Rattle.conley_tool.specs.Graph.{graph_of};
+ghost use Rattle.conley_tool.specs.MorseMaking.{graph_of};
 ghost use Rattle.conley_tool.specs.Headline.{prints, IsDueOn};
-ghost use Rattle.conley_tool.specs.Outcomes.{TextCause};
+ghost use Rattle.conley_tool.specs.Ends.{TextCause};
 ghost use Rattle.conley_tool.specs.declared.words.Verb.TheVariants.{Morse};
 
 use crate::text::{push_pair, push_set};

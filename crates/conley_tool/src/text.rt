@@ -3,7 +3,7 @@
 ghost use Rattle.std.specs.Prelude.{◌≡◌, ◌<◌, ◌++◌, ◌∷◌, All, OnOk, decimal, length, map};
 ghost use Rattle.conley_tool.specs.Texts.{line, labels_of};
 ghost use Rattle.conley_tool.specs.MorseText.{set_line, order_line};
-ghost use Rattle.conley_tool.specs.Spaced.{spaced};
+ghost use Rattle.conley_tool.specs.MorseMaking.{spaced};
 
 use conley_field::AnyField;
 use conley_lefschetz::Complex;

@@ -8,7 +8,8 @@ ghost use Rattle.conley_input.specs.ProblemMeaning.{meaning_of};
 ghost use Rattle.conley_tool.specs.Words.{on_file, command_of};
 ghost use Rattle.conley_tool.specs.Line.{line_of};
 ghost use Rattle.conley_tool.specs.Headline.{held, prints, fetched, IsDueOn, IsDue, IsDueOf};
-ghost use Rattle.conley_tool.specs.Outcomes.{FetchCause, ProblemCause, TextCause, EndCause, Stands, MayBe, HasCause, Gains, IsAnswer};
+ghost use Rattle.conley_tool.specs.Outcomes.{MayBe, HasCause, Gains, IsAnswer};
+ghost use Rattle.conley_tool.specs.Ends.{FetchCause, ProblemCause, Stands, TextCause, EndCause};
 
 use crate::classes::classes_text;
 use crate::morse::morse_text;

@@ -8,7 +8,7 @@ use Rattle.conley_walk.specs.Lists.{items_of}
 use Rattle.conley_walk.proofs.ListLemmas.{row_of}
 use Rattle.conley_transitions.specs.Morse.{set_at}
 use Rattle.conley_tool.specs.MorseText.{set_line, set_line_at, order_line}
-use Rattle.conley_tool.specs.Graph.{graph_of}
+use Rattle.conley_tool.specs.MorseMaking.{graph_of}
 use Rattle.conley_tool.proofs.LineLemmas.{lines_more}
 use Rattle.conley_tool.proofs.morse.lines_of.Goals as goal
 

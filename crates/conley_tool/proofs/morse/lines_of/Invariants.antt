@@ -1,7 +1,7 @@
 use Rattle.std.proofs.Common.{◌≡◌, ◌++◌, take, length}
 use Rattle.std.specs.List.{flat_map, range_with_len}
 use Rattle.conley_tool.specs.MorseText.{set_line_at, order_line}
-use Rattle.conley_tool.specs.Graph.{graph_of}
+use Rattle.conley_tool.specs.MorseMaking.{graph_of}
 use Rattle.conley_tool.proofs.morse.lines_of.Given as goal
 
 abbrev pub invariant-loop-m : goal.invariant-loop-m

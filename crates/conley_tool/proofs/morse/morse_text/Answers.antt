@@ -8,7 +8,7 @@ use Rattle.conley_transitions.specs.Morse.{set_at}
 use Rattle.conley_morse.specs.Decomposition.{IsConleyMorseGraph, HasTooManySets}
 use Rattle.conley_tool.specs.Headline.{prints, refused}
 use Rattle.conley_tool.specs.MorseText.{IsMorseGraphOf}
-use Rattle.conley_tool.specs.Graph.{graph_of}
+use Rattle.conley_tool.specs.MorseMaking.{graph_of}
 use Rattle.conley_tool.specs.declared.outcome.Fault.TheVariants.{Morse}
 use Rattle.conley_input.proofs.CellLemmas.{arithmetic_of-residues}
 use Rattle.conley_tool.proofs.morse.morse_text.Goals as goal

@@ -1,6 +1,6 @@
 use Rattle.std.proofs.Common.{◌≡◌, ◌++◌, take}
 use Rattle.conley_tool.specs.Texts.{labels_of}
-use Rattle.conley_tool.specs.Spaced.{spaced}
+use Rattle.conley_tool.specs.MorseMaking.{spaced}
 use Rattle.conley_tool.proofs.text.push_labels.Given as goal
 
 abbrev pub invariant-loop-x : goal.invariant-loop-x

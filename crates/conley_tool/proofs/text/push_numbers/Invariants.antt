@@ -1,6 +1,6 @@
 use Rattle.std.proofs.Common.{◌≡◌, ◌++◌, map, take}
 use Rattle.std.specs.Prelude.{decimal}
-use Rattle.conley_tool.specs.Spaced.{spaced}
+use Rattle.conley_tool.specs.MorseMaking.{spaced}
 use Rattle.conley_tool.proofs.text.push_numbers.Given as goal
 
 abbrev pub invariant-loop-number : goal.invariant-loop-number

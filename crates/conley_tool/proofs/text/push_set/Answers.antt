@@ -1,7 +1,7 @@
 use Rattle.std.proofs.Common.{◌++◌, ◌∷◌, [], ℕ, List, map, ◌∙◌, ap}
 use Rattle.std.specs.Prelude.{codes, decimal}
 use Rattle.conley_tool.specs.Texts.{labels_of}
-use Rattle.conley_tool.specs.Spaced.{spaced}
+use Rattle.conley_tool.specs.MorseMaking.{spaced}
 use Rattle.conley_tool.proofs.SpacedLemmas.{set_pieces}
 use Rattle.conley_tool.proofs.text.push_set.Goals as goal
 
