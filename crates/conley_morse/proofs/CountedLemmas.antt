@@ -8,9 +8,10 @@ use Rattle.conley_walk.proofs.ListLemmas.{row_at_end, row_before}
 use Rattle.conley_field.specs.Arithmetic.{Arithmetic}
 use Rattle.conley_lefschetz.specs.Complex.{Layout}
 use Rattle.conley_lefschetz.specs.Conley.{AreConleyNumbers}
+use Rattle.conley_transitions.specs.Classes.{AreRecurrenceClasses}
 use Rattle.conley_transitions.specs.Morse.{set_at}
 use Rattle.conley_morse.specs.Decomposition.{field_of}
-use Rattle.conley_morse.specs.Making.{AreClassLists, ClassCounts, AreCountedSoFar}
+use Rattle.conley_morse.specs.Making.{ClassCounts, AreCountedSoFar}
 
 pub counted_none : {F : Arithmetic} (c : Layout) (part_of : List ℕ) (lists : List (List ℕ)) → AreCountedSoFar F c part_of lists 0 [] []
 counted_none c part_of lists = record {
@@ -22,7 +23,7 @@ counted_none c part_of lists = record {
   conley = λ i lt. absurd (omega (arith, lt));
 }
 
-module _ {F : Arithmetic} (c : Layout) (part_of : List ℕ) (lists : List (List ℕ)) (classes : AreClassLists (field_of F c part_of) lists) (n : ℕ) (below : n < length lists) where
+module _ {F : Arithmetic} (c : Layout) (part_of : List ℕ) (lists : List (List ℕ)) (classes : AreRecurrenceClasses c.faces part_of lists) (n : ℕ) (below : n < length lists) where
   -- it doesn't count
   pub counted_same : (sets numbers : List (List ℕ)) → AreCountedSoFar F c part_of lists n sets numbers → ¬ ClassCounts (field_of F c part_of) (set_at lists n) → AreCountedSoFar F c part_of lists (n + 1) sets numbers
   counted_same sets numbers so_far not = record {

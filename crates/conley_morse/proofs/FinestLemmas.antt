@@ -9,15 +9,16 @@ use Rattle.conley_walk.proofs.WalkLemmas.{reaches_on}
 use Rattle.conley_field.specs.Arithmetic.{Arithmetic}
 use Rattle.conley_lefschetz.specs.Complex.{Layout}
 use Rattle.conley_order.specs.ClassRows.{ClassRows, is_at_or_below}
+use Rattle.conley_transitions.specs.Classes.{AreRecurrenceClasses}
 use Rattle.conley_transitions.specs.Field.{IsField, StepOf, AreRecurrent}
 use Rattle.conley_transitions.specs.Morse.{set_at, IsAt, AreCountingClasses, IsReachOrder}
 use Rattle.conley_transitions.proofs.FinestLemmas.{classes_are_morse, classes_are_finest}
 use Rattle.conley_morse.specs.Covers.{lower_test, HaveFirstCells}
 use Rattle.conley_morse.specs.Decomposition.{field_of, IsFinestDecomposition}
-use Rattle.conley_morse.specs.Making.{AreClassLists, ClassCounts, AreCountedSoFar}
+use Rattle.conley_morse.specs.Making.{ClassCounts, AreCountedSoFar}
 use Rattle.conley_morse.proofs.RegularLemmas.{counts_along}
 
-module _ {F : Arithmetic} (c : Layout) (part_of : List ℕ) (lists sets numbers : List (List ℕ)) (classes : AreClassLists (field_of F c part_of) lists) (counted : AreCountedSoFar F c part_of lists (length lists) sets numbers) where
+module _ {F : Arithmetic} (c : Layout) (part_of : List ℕ) (lists sets numbers : List (List ℕ)) (classes : AreRecurrenceClasses c.faces part_of lists) (counted : AreCountedSoFar F c part_of lists (length lists) sets numbers) where
   -- a set has cells, so its first is one
   has_first : (i : ℕ) → i < length sets → Contains (set_at sets i) (slice_index (set_at sets i) 0)
   has_first i lt =

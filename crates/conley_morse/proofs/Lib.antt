@@ -1,5 +1,4 @@
 pub mod RegularLemmas
-pub mod ClassLemmas
 pub mod CountedLemmas
 pub mod FinestLemmas
 pub mod OrderLemmas

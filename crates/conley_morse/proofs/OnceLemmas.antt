@@ -9,6 +9,7 @@ use Rattle.conley_field.specs.Arithmetic.{Arithmetic}
 use Rattle.conley_lefschetz.specs.Complex.{Layout}
 use Rattle.conley_lefschetz.specs.Conley.{AreConleyNumbers, NumbersAreOne}
 use Rattle.conley_transitions.specs.Field.{Field}
+use Rattle.conley_transitions.proofs.ClassLemmas.{IsFirstBelow}
 use Rattle.conley_transitions.specs.Morse.{set_at, IsAt, AreCountingClasses}
 use Rattle.conley_morse.specs.Covers.{IsPairBefore, AreCovers}
 use Rattle.conley_morse.specs.Decomposition.{field_of, IsFinestDecomposition}
@@ -25,10 +26,6 @@ covers_once field sets a b first second =
     one_way x y (inl less) (inr e) = omega (arith, e.0)
     one_way x y (inr e) (inl more) = omega (arith, e.0)
     one_way x y (inr e) (inr f) = omega (arith, e.1, f.1)
-
--- the first cell of one set is below that of the other
-abbrev IsSetBefore : List ℕ → List ℕ → Type 0
-IsSetBefore a b = slice_index a 0 < slice_index b 0
 
 module _ (field : Field) (a b : List (List ℕ)) (first : AreCountingClasses field a) (second : AreCountingClasses field b) where
   -- a set of the one list has the cells of a set of the other
@@ -59,7 +56,7 @@ module _ (field : Field) (a b : List (List ℕ)) (first : AreCountingClasses fie
 
 pub finest_once : {F : Arithmetic} (c : Layout) (part_of : List ℕ) (a b : List (List ℕ)) → IsFinestDecomposition F c part_of a → IsFinestDecomposition F c part_of b → a ≡ b
 finest_once {F} c part_of a b first second =
-    ascending_once IsSetBefore (λ x y less more. omega arith) [] a b first.in_order second.in_order (λ set. (
+    ascending_once IsFirstBelow (λ x y less more. omega arith) [] a b first.in_order second.in_order (λ set. (
       same_sets (field_of F c part_of) a b first.classes second.classes first.ascending second.ascending set,
       same_sets (field_of F c part_of) b a second.classes first.classes second.ascending first.ascending set,
     ))

@@ -1,16 +1,14 @@
 -- What the steps that find the Morse sets say of what they made; no public clause cites it.
 --     LiesInOnePart part_of class      the cells of the class have the part of its first
 --     HasTwoParts part_of class        some cell of the class has another part than its first
---     AreClassLists field lists        the recurrence classes as ascending lists, in the order of their least cells
 --     ClassCounts field class          each cell of the class is one whose class counts
 --     AreCountedSoFar F c part_of lists n sets numbers   those of the first n classes that count, with their Conley numbers
-use Rattle.std.specs.Prelude.{◌≡◌, ◌≢◌, ◌↔◌, ◌<◌, ◌≤◌, ℕ, List, Contains, length, slice_index}
-use Rattle.std.specs.List.Sorted.{IsStrictlyIncreasing}
+use Rattle.std.specs.Prelude.{◌≡◌, ◌≢◌, ◌<◌, ◌≤◌, ℕ, List, Contains, length, slice_index}
 use Rattle.conley_field.specs.Arithmetic.{Arithmetic}
 use Rattle.conley_lefschetz.specs.Complex.{Layout}
 use Rattle.conley_lefschetz.specs.Conley.{AreConleyNumbers}
-use Rattle.conley_transitions.specs.Field.{Field, IsCell, StepOf, AreRecurrent, Counts}
-use Rattle.conley_transitions.specs.Morse.{set_at, IsAt}
+use Rattle.conley_transitions.specs.Field.{Field, StepOf, Counts}
+use Rattle.conley_transitions.specs.Morse.{set_at}
 use Rattle.conley_morse.specs.Decomposition.{field_of}
 
 abbrev pub LiesInOnePart : List ℕ → List ℕ → Type 0
@@ -18,16 +16,6 @@ LiesInOnePart part_of class = (x : ℕ) → Contains class x → slice_index par
 
 abbrev pub HasTwoParts : List ℕ → List ℕ → Type 0
 HasTwoParts part_of class = (x : ℕ) × Contains class x × (slice_index part_of x ≢ slice_index part_of (slice_index class 0))
-
-pub record AreClassLists (field : Field) (lists : List (List ℕ)) : Type 0 where
-  pub few : length lists ≤ length field.part_of
-  pub non_empty : (k : ℕ) → k < length lists → 0 < length (set_at lists k)
-  pub ascending : (k : ℕ) → IsStrictlyIncreasing (set_at lists k)
-  pub cells : (k x : ℕ) → Contains (set_at lists k) x → IsCell field x
-  pub all : (x : ℕ) → IsCell field x → (k : ℕ) × IsAt lists x k
-  pub once : (j k x : ℕ) → Contains (set_at lists j) x → Contains (set_at lists k) x → j ≡ k
-  pub same : (k x y : ℕ) → Contains (set_at lists k) x → Contains (set_at lists k) y ↔ AreRecurrent (StepOf field) x y
-  pub in_order : (j k : ℕ) → j < k → k < length lists → slice_index (set_at lists j) 0 < slice_index (set_at lists k) 0
 
 abbrev pub ClassCounts : Field → List ℕ → Type 0
 ClassCounts field class = (x : ℕ) → Contains class x → Counts (StepOf field) field x

@@ -4,9 +4,10 @@ ghost use Rattle.std.specs.Prelude.{◌≡◌, ◌⊎◌, ◌<◌, ◌↔◌, Al
 ghost use Rattle.conley_walk.specs.Lists.{items_of};
 ghost use Rattle.conley_faces.specs.Face.{IsCellList, IsLocallyClosed};
 ghost use Rattle.conley_lefschetz.specs.Conley.{IsRegular, AreConleyNumbers};
+ghost use Rattle.conley_transitions.specs.Classes.{AreRecurrenceClasses};
 ghost use Rattle.conley_transitions.specs.Field.{IsField};
 ghost use Rattle.conley_morse.specs.Decomposition.{field_of};
-ghost use Rattle.conley_morse.specs.Making.{LiesInOnePart, HasTwoParts, AreClassLists, AreCountedSoFar};
+ghost use Rattle.conley_morse.specs.Making.{LiesInOnePart, HasTwoParts, AreCountedSoFar};
 
 use crate::NoMemory;
 use conley_field::Field;
@@ -74,7 +75,7 @@ pub(crate) fn counted<F: Field>(
     classes: Vec<Vec<u32>>,
 ) -> Result<(Vec<Vec<u32>>, Vec<Vec<u32>>), NoMemory>
     requires field { IsField (field_of (F.arithmetic complex.now.0) complex.now.1 partition.now) }
-    requires classes { AreClassLists (field_of (F.arithmetic complex.now.0) complex.now.1 partition.now) (items_of classes.items) }
+    requires classes { AreRecurrenceClasses complex.now.1.faces partition.now (items_of classes.items) }
     ensures { IfOk result (λ p. AreCountedSoFar (F.arithmetic complex.now.0) complex.now.1 partition.now (items_of classes.items) (length classes.items) (items_of p.0.items) (items_of p.1.items)) }
 {
     let mut sets = Vec::new(alloc);

@@ -9,7 +9,6 @@ ghost use Rattle.conley_transitions.specs.Step.{Step};
 ghost use Rattle.conley_morse.specs.Decomposition.{IsConleyMorseGraph, HasTooManySets};
 
 use crate::MorseError;
-use crate::classes::members_of;
 use crate::counting::counted;
 use crate::order::covers;
 use conley_field::Field;
@@ -17,6 +16,7 @@ use conley_lefschetz::Complex;
 use conley_mvf::Partition;
 use conley_order::ReachRows;
 use conley_transitions::transitions;
+use conley_walk::gathered;
 use std::alloc::Global;
 
 /// The most sets that are given.
@@ -54,7 +54,7 @@ pub fn morse<F: Field>(
     let digraph = transitions(alloc, faces, partition)?;
     let _nodes = digraph.count();
     let grading = digraph.reach_rows(alloc)?;
-    let classes = members_of(alloc, &grading)?;
+    let classes = gathered(alloc, grading.classes())?;
     let (sets, numbers) = counted(alloc, complex, partition, classes)?;
     if sets.len() > MOST {
         return Err(MorseError::TooManyMorse(sets.len() as u32));

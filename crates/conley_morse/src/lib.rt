@@ -3,7 +3,6 @@
 //! Open specs/Decomposition.antt first; what a Morse decomposition is stands in conley_transitions.
 #![tactic(auto)]
 
-mod classes;
 mod counting;
 mod decomposition;
 mod error;

@@ -10,12 +10,11 @@
 --     TellsFirst lists n cells least    a cell of one of the first n lists has the first cell of such a list, any other has itself
 --     AreLeast least                 a cell that is had by another is no later and has itself
 --     NumbersSoFar least n part_of next   parts of the first n cells: cells of one part are those that have one cell
---     ArePartsSoFar part_of n cells  list p has those of the first n cells whose part is p, ascending
 --     IsPartitionTable part_of cells what a value of `Partition` keeps
 use Rattle.std.specs.Prelude.{◌≡◌, ◌⊎◌, ◌↔◌, ◌<◌, ◌≤◌, ℕ, List, [], ◌∷◌, Bool, Option, Some, None, Contains, length, slice_index, slice_index_or}
-use Rattle.std.specs.List.Sorted.{IsStrictlyIncreasing}
 use Rattle.conley_first.specs.First.{Precedes}
 use Rattle.conley_walk.specs.Lists.{IsMarked, ListedStep}
+use Rattle.conley_walk.specs.Gathered.{AreGathered}
 use Rattle.conley_mvf.specs.Fault.{IsAt, StoodEarlier}
 use Rattle.conley_mvf.specs.Partition.{IsPartition}
 
@@ -70,13 +69,6 @@ pub record NumbersSoFar (least : List ℕ) (n : ℕ) (part_of : List ℕ) (next 
   pub same : (x y : ℕ) → x < n → y < n → (slice_index part_of x ≡ slice_index part_of y) ↔ (slice_index least x ≡ slice_index least y)
   pub in_order : (x k : ℕ) → x < n → k < slice_index part_of x → (y : ℕ) × (y < x) × (slice_index part_of y ≡ k)
 
-pub record ArePartsSoFar (part_of : List ℕ) (n : ℕ) (cells : List (List ℕ)) : Type 0 where
-  pub few : length cells ≤ n
-  pub below : (x : ℕ) → x < n → slice_index part_of x < length cells
-  pub used : (p : ℕ) → p < length cells → (x : ℕ) × (x < n) × (slice_index part_of x ≡ p)
-  pub ascending : (p : ℕ) → IsStrictlyIncreasing (slice_index_or cells p [])
-  pub same : (p x : ℕ) → ListedStep cells p x ↔ ((x < n) × (slice_index part_of x ≡ p))
-
 pub record IsPartitionTable (part_of : List ℕ) (cells : List (List ℕ)) : Type 0 where
   pub partition : IsPartition part_of
-  pub parts : ArePartsSoFar part_of (length part_of) cells
+  pub parts : AreGathered part_of (length part_of) cells

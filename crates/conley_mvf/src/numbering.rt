@@ -1,11 +1,9 @@
-//! The numbers of parts, and the cells of each.
+//! The numbers of parts.
 
 ghost use Rattle.std.specs.Prelude.{◌≡◌, ◌<◌, ◌^◌, ℕ, All, IfOk, length, slice_index};
 ghost use Rattle.conley_walk.specs.Lists.{items_of, ListedStep};
-ghost use Rattle.conley_mvf.specs.Partition.{IsPartition};
-ghost use Rattle.conley_mvf.specs.Making.{PutsFirst, TellsFirst, AreLeast, NumbersSoFar, ArePartsSoFar};
+ghost use Rattle.conley_mvf.specs.Making.{PutsFirst, TellsFirst, AreLeast, NumbersSoFar};
 
-use conley_walk::put_under;
 use std::alloc::{AllocError, Global};
 
 /// Gives the first number of the list to each of its numbers.
@@ -57,21 +55,4 @@ pub(crate) fn numbers_of(alloc: Global, least: &[u32]) -> Result<Vec<u32>, Alloc
         }
     }
     Ok(part_of)
-}
-
-/// The cells of each part, ascending.
-pub(crate) fn parts_of(alloc: Global, part_of: &[u32]) -> Result<Vec<Vec<u32>>, AllocError>
-    requires { IsPartition part_of.now }
-    ensures { IfOk result (λ cells. ArePartsSoFar part_of.now (length part_of.now) (items_of cells.items)) }
-{
-    let mut cells = Vec::new(alloc);
-    for x in 0..part_of.len() as u32 {
-        let part = part_of[x as usize];
-        if part as usize == cells.len() {
-            cells.push(vec![in alloc; x]?)?;
-        } else {
-            put_under(&mut cells, part, x)?;
-        }
-    }
-    Ok(cells)
 }

@@ -8,9 +8,9 @@ ghost use Rattle.conley_mvf.specs.Fault.{Fails, IsFirstFault};
 
 use crate::PartError;
 use crate::faults::{first_empty, first_gap, first_repeat, first_unknown};
-use crate::numbering::{firsts_of, numbers_of, parts_of};
+use crate::numbering::{firsts_of, numbers_of};
 use conley_faces::Faces;
-use conley_walk::all_ordered;
+use conley_walk::{all_ordered, gathered};
 use std::alloc::Global;
 use std::marker::Model;
 
@@ -60,7 +60,7 @@ impl Partition {
         }
         let least = firsts_of(alloc, count, &lists)?;
         let part_of = numbers_of(alloc, &least)?;
-        let cells = parts_of(alloc, &part_of)?;
+        let cells = gathered(alloc, &part_of)?;
         Ok(Partition { part_of, cells })
     }
 

@@ -35,6 +35,13 @@ impl ReachRows {
         ReachRows { class_of, rows }
     }
 
+    /// The class of each cell. It takes no memory.
+    pub fn classes(&self) -> &[u32]
+        ensures { result.now ≡ self.now.class_of }
+    {
+        &self.class_of
+    }
+
     /// The class of a cell. It takes no memory.
     pub fn class_of(&self, cell: u32) -> u32
         requires { cell < length self.now.class_of }

@@ -21,6 +21,7 @@ fn a_bit_says_which_class_is_below(rt: HostRuntime) -> Result<(), Fail> {
     let grading = ReachRows::from_rows(class_of, two_rows(rt.alloc())?);
     assert_eq!(rt; grading.cells(), 3);
     assert_eq!(rt; grading.class_of(2), 0);
+    assert_eq!(rt; grading.classes(), [0, 1, 0].as_slice());
     for (a, b, below) in [(0, 2, true), (1, 2, true), (2, 1, false), (1, 1, true)] {
         assert_eq!(rt; grading.below(a, b), below, "at {a} and {b}");
     }

@@ -1,21 +1,19 @@
 -- At most one thing is due
-use Rattle.std.proofs.Common.{◌≡◌, inl, inr, ◌<◌, ◌≤◌, ℕ, zero, suc, List, Option, Some, None, length, sym, ◌∙◌, ap, subst, arith}
-use Rattle.std.specs.Prelude.{slice_index}
-use Rattle.std.proofs.lemmas.Bool.{cases_order}
-use Rattle.std.proofs.lemmas.Grind.{same_number_lists}
+use Rattle.std.proofs.Common.{◌≡◌, inl, inr, ◌<◌, ℕ, List, Option, Some, None, length, sym, ◌∙◌, ap, subst, arith}
+use Rattle.std.specs.Prelude.{flat_map}
 use Rattle.conley_outside.specs.Depot.{Files}
 use Rattle.conley_field.specs.Arithmetic.{IsField}
 use Rattle.conley_field.specs.Prime.{residues}
 use Rattle.conley_lefschetz.specs.Conley.{AreConleyNumbers}
 use Rattle.conley_lefschetz.proofs.ConleyLemmas.{numbers_are_one}
 use Rattle.conley_transitions.specs.Morse.{set_at}
+use Rattle.conley_transitions.proofs.ClassLemmas.{classes_once}
 use Rattle.conley_morse.specs.Covers.{AreCovers}
 use Rattle.conley_morse.specs.Decomposition.{field_of}
 use Rattle.conley_morse.proofs.OnceLemmas.{finest_once, covers_once, numbers_once}
 use Rattle.conley_input.specs.Problem.{Problem}
 use Rattle.conley_input.proofs.OnceLemmas.{refused_once, not_refused_and_read, read_once, read_prime}
-use Rattle.conley_tool.specs.Recurrence.{AreRecurrenceClasses}
-use Rattle.conley_tool.specs.Texts.{lines_of}
+use Rattle.conley_tool.specs.Texts.{class_line}
 use Rattle.conley_tool.specs.MorseText.{MorseGraph, IsMorseGraphOf, morse_lines}
 use Rattle.conley_tool.specs.Words.{Command, on_file}
 use Rattle.conley_tool.specs.Headline.{Due, refused, prints, Fetched, held, ends, fetched, AfterFetch, AfterProblem, PrintsClasses, IsDueOn, IsDue}
@@ -24,39 +22,10 @@ use Rattle.conley_tool.specs.declared.words.Verb.TheVariants.{Classes, Morse}
 use Rattle.conley_tool.specs.declared.TheConstants.{FILE_LIMIT}
 use Rattle.conley_tool.specs.declared.outcome.Fault.TheVariants as fault
 
--- the numbers of two numberings of the recurrence classes agree, cell by cell
-module _ (p : Problem) (c d : List ℕ) (cs : AreRecurrenceClasses p c) (ds : AreRecurrenceClasses p d) where
-  numbers_at : (n : ℕ) → n < length p.complex.labels → ((x : ℕ) → x < n → slice_index c x ≡ slice_index d x) → slice_index c n ≡ slice_index d n
-  numbers_at n lt before = elim (cases_order (slice_index c n) (slice_index d n)) [
-    | inl e ↦ e
-    | inr other ↦ elim other [
-      | inl less ↦
-          let w = ds.in_order n (slice_index c n) lt less in
-          let e : slice_index c w.0 ≡ slice_index c n = before w.0 w.1 ∙ w.2 in
-          let r = (cs.same w.0 n (omega (arith, w.1)) lt).0 e in
-          sym w.2 ∙ (ds.same w.0 n (omega (arith, w.1)) lt).1 r
-      | inr more ↦
-          let w = cs.in_order n (slice_index d n) lt more in
-          let e : slice_index d w.0 ≡ slice_index d n = sym (before w.0 w.1) ∙ w.2 in
-          let r = (ds.same w.0 n (omega (arith, w.1)) lt).0 e in
-          sym ((cs.same w.0 n (omega (arith, w.1)) lt).1 r) ∙ w.2
-    ]
-  ]
-
-  numbers_below : (n : ℕ) → n ≤ length p.complex.labels → (x : ℕ) → x < n → slice_index c x ≡ slice_index d x
-  numbers_below zero le x lt = absurd (omega arith)
-  numbers_below (suc n) le x lt = elim (cases_order x n) [
-    | inl e ↦ subst (λ i. slice_index c i ≡ slice_index d i) (sym e) (numbers_at n (omega arith) (numbers_below n (omega arith)))
-    | inr other ↦ elim other [ inl less ↦ numbers_below n (omega arith) x less | inr more ↦ absurd (omega arith) ]
-  ]
-
-  class_numbers_once : c ≡ d
-  class_numbers_once = same_number_lists c d (cs.count ∙ sym ds.count) (λ k lt. numbers_below (length p.complex.labels) (omega arith) k (omega (arith, lt, cs.count)))
-
-classes_once : (p : Problem) (a b : Due) → PrintsClasses p a → PrintsClasses p b → a ≡ b
-classes_once p a b r s =
-    let e : r.1.0 ≡ s.1.0 = class_numbers_once p r.1.0 s.1.0 r.1.1 s.1.1 in
-    r.2 ∙ ap prints (r.1.2 ∙ ap (λ c. lines_of p.complex.labels c) e ∙ sym s.1.2) ∙ sym s.2
+text_once : (p : Problem) (a b : Due) → PrintsClasses p a → PrintsClasses p b → a ≡ b
+text_once p a b r s =
+    let e : r.1.0 ≡ s.1.0 = classes_once p.complex.faces p.part_of r.1.0 s.1.0 r.1.1 s.1.1 in
+    r.2 ∙ ap prints (r.1.2 ∙ ap (λ classes. flat_map (class_line p.complex.labels) classes) e ∙ sym s.1.2) ∙ sym s.2
 
 -- the lines of two graphs agree
 graph_lines_once : (p : Problem) → IsField (residues p.order) → (g h : MorseGraph) → IsMorseGraphOf p g → IsMorseGraphOf p h → morse_lines p.complex.labels g ≡ morse_lines p.complex.labels h
@@ -79,7 +48,7 @@ morse_once p laws a b (inr r) (inl s) = let e = ap length (finest_once p.complex
 morse_once p laws a b (inr r) (inr s) = r.3 ∙ ap prints (graph_lines_once p laws r.0 s.0 r.1 s.1) ∙ sym s.3
 
 due_on_once : (verb : Verb) (p : Problem) → IsField (residues p.order) → (a b : Due) → IsDueOn verb p a → IsDueOn verb p b → a ≡ b
-due_on_once Classes p laws a b r s = classes_once p a b r s
+due_on_once Classes p laws a b r s = text_once p a b r s
 due_on_once Morse p laws a b r s = morse_once p laws a b r s
 
 after_problem_once : (verb : Verb) (bytes : List ℕ) (a b : Due) → AfterProblem bytes (IsDueOn verb) a → AfterProblem bytes (IsDueOn verb) b → a ≡ b

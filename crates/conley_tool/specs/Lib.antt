@@ -1,9 +1,7 @@
 pub mod Words
-pub mod Recurrence
 pub mod Texts
 pub mod MorseText
 pub mod MorseMaking
-pub mod Members
 pub mod Line
 pub mod Headline
 pub mod Outcomes

@@ -6,3 +6,4 @@ pub mod EssentialLemmas
 pub mod FinestLemmas
 pub mod IsolationLemmas
 pub mod InvariantLemmas
+pub mod ClassLemmas

@@ -3,6 +3,7 @@ pub mod Making
 pub mod Field
 pub mod Lasso
 pub mod Morse
+pub mod Classes
 pub mod Invariant
 pub mod Isolation
 pub mod Laws

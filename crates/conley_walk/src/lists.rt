@@ -3,6 +3,7 @@
 ghost use Rattle.std.specs.Prelude.{◌≡◌, ◌<◌, ◌≤◌, ◌^◌, ◌↔◌, All, take, slice_index, ℕ, OnOk, IfOk, IfSome, IfNone, IsTrue, Contains, length};
 ghost use Rattle.std.specs.List.Sorted.{IsStrictlyIncreasing};
 ghost use Rattle.conley_walk.specs.Lists.{items_of, IsDigraph, entries_of, IsFirstOutOfRange, IsOrderedCopy, PutsUnder};
+ghost use Rattle.conley_walk.specs.Gathered.{IsNumbering, AreGathered};
 
 use std::alloc::{AllocError, Global};
 
@@ -76,4 +77,22 @@ pub fn put_under(lists: &mut Vec<Vec<u32>>, x: u32, y: u32) -> Result<(), AllocE
 {
     lists[x as usize].push(y)?;
     Ok(())
+}
+
+/// The places of each number, ascending, where each smaller number stands at an earlier place.
+pub fn gathered(alloc: Global, numbers: &[u32]) -> Result<Vec<Vec<u32>>, AllocError>
+    requires few { length numbers.now < 2 ^ 32 }
+    requires in_order { IsNumbering numbers.now }
+    ensures { IfOk result (λ lists. AreGathered numbers.now (length numbers.now) (items_of lists.items)) }
+{
+    let mut lists = Vec::new(alloc);
+    for x in 0..numbers.len() as u32 {
+        let number = numbers[x as usize];
+        if number as usize == lists.len() {
+            lists.push(vec![in alloc; x]?)?;
+        } else {
+            put_under(&mut lists, number, x)?;
+        }
+    }
+    Ok(lists)
 }

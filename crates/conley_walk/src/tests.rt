@@ -2,7 +2,7 @@ ghost use Rattle.std.specs.Prelude.{◌≡◌, [], ◌∷◌, IfOk};
 ghost use Rattle.conley_walk.specs.Lists.{items_of};
 
 use crate::{
-    all_ordered, first_out_of_range, ordered, put_under, reached, reached_from, stands_in,
+    all_ordered, first_out_of_range, gathered, ordered, put_under, reached, reached_from, stands_in,
 };
 use std::alloc::{AllocError, Global};
 use std::test::Fail;
@@ -48,5 +48,14 @@ fn lists_are_put_in_order(rt: HostRuntime) -> Result<(), Fail> {
     put_under(&mut lists, 2, 4)?;
     assert_eq!(rt; lists[2].as_slice(), [4].as_slice());
     assert_eq!(rt; first_out_of_range(&lists), Some(4));
+    Ok(())
+}
+
+#[test]
+fn places_are_gathered_by_their_numbers(rt: HostRuntime) -> Result<(), Fail> {
+    let lists = gathered(rt.alloc(), &[0, 1, 0])?;
+    assert_eq!(rt; lists.len(), 2);
+    assert_eq!(rt; lists[0].as_slice(), [0, 2].as_slice());
+    assert_eq!(rt; lists[1].as_slice(), [1].as_slice());
     Ok(())
 }

@@ -7,7 +7,7 @@ use Rattle.conley_walk.specs.Lists.{items_of}
 use Rattle.conley_walk.proofs.ListLemmas.{row_of, length-items_of, All-from_contained}
 use Rattle.conley_morse.specs.Decomposition.{field_of}
 use Rattle.conley_morse.proofs.RegularLemmas.{class_counts, class_passed}
-use Rattle.conley_morse.proofs.ClassLemmas.{class_cells, class_closed}
+use Rattle.conley_transitions.proofs.ClassLemmas.{class_cells, class_closed}
 use Rattle.conley_morse.proofs.CountedLemmas.{counted_same, counted_more}
 use Rattle.conley_morse.proofs.counting.counted.Goals as goal
 
@@ -58,7 +58,7 @@ loop-class-preserved g c =
     let passed = rw (c.deref.ensures.value, ← is) at (rw c.in_default.is at c.in_ok-of_class.ensures.passed) in
     rw (length_push c.loop-class.yielded c.in-Some.class)
     (counted_same {F = g.F.Field.arithmetic c.args.complex.now.0} c.args.complex.now.1 c.args.partition.now (items_of all) c.requires.classes n below (items_of c.loop-class.sets.items) (items_of c.loop-class.numbers.items) c.loop-class.invariant
-    (class_passed {F = g.F.Field.arithmetic c.args.complex.now.0} c.args.complex.now.1 c.args.partition.now (items_of all) c.requires.classes n below passed.0 passed.1))
+    (class_passed c.args.complex.now.1 c.args.partition.now (items_of all) c.requires.classes n below {F = g.F.Field.arithmetic c.args.complex.now.0} passed.0 passed.1))
 
 pub loop-class-preserved-in-Continue-branch-4 : goal.loop-class-preserved-in-Continue-branch-4
 loop-class-preserved-in-Continue-branch-4 g c =
@@ -72,4 +72,4 @@ loop-class-preserved-in-Continue-branch-4 g c =
     let numbers = rw (c.deref.ensures.value, ← is) at (rw c.in-Some-2.is at c.in_ok-of_class.ensures.numbers) in
     rw (length_push c.loop-class.yielded c.in-Some.class, c.in_ok-push.ensures.items, c.in_ok-push-2.ensures.items)
     (counted_more {F = g.F.Field.arithmetic c.args.complex.now.0} c.args.complex.now.1 c.args.partition.now (items_of all) c.requires.classes n below c.loop-class.sets.items c.loop-class.numbers.items c.in-Some.class c.in-Some-2.of_class (sym is) c.loop-class.invariant
-    (class_counts {F = g.F.Field.arithmetic c.args.complex.now.0} c.args.complex.now.1 c.args.partition.now (items_of all) c.requires.classes n below counts) numbers)
+    (class_counts c.args.complex.now.1 c.args.partition.now (items_of all) c.requires.classes n below {F = g.F.Field.arithmetic c.args.complex.now.0} counts) numbers)

@@ -5,12 +5,13 @@ use Rattle.conley_walk.specs.Walk.{Reaches}
 use Rattle.conley_walk.specs.Lists.{items_of, IsDigraph}
 use Rattle.conley_walk.proofs.ListLemmas.{length-items_of}
 use Rattle.conley_order.specs.ClassRows.{is_at_or_below}
+use Rattle.conley_transitions.specs.Classes.{AreRecurrenceClasses}
 use Rattle.conley_transitions.specs.Step.{Step}
 use Rattle.conley_transitions.specs.Field.{IsField}
 use Rattle.conley_morse.specs.Covers.{lower_test, AreCoversSoFar}
 use Rattle.conley_morse.specs.Decomposition.{field_of, IsFinestDecomposition}
-use Rattle.conley_morse.specs.Making.{AreClassLists, AreCountedSoFar}
-use Rattle.conley_morse.proofs.ClassLemmas.{class_lists}
+use Rattle.conley_morse.specs.Making.{AreCountedSoFar}
+use Rattle.conley_transitions.proofs.ClassLemmas.{gathered_classes}
 use Rattle.conley_morse.proofs.FinestLemmas.{finest_decomposition, first_cells, lower_is_reach}
 use Rattle.conley_morse.proofs.OrderLemmas.{covers_of_reach}
 use Rattle.conley_morse.proofs.decomposition.morse.Given.{Over}
@@ -20,12 +21,12 @@ use Rattle.conley_morse.proofs.decomposition.morse.Goals as goal
 is_field : (g : Over) (c : In_ok-classes g) → IsField (field_of (g.F.Field.arithmetic c.args.complex.now.0) c.args.complex.now.1 c.args.partition.now)
 is_field g c = record { digraph = subst (λ (l : List (List ℕ)). IsDigraph l) c.faces-faces.ensures.faces c.count-cells.ensures.order.digraph; parts = c.requires.count }
 
-classes : (g : Over) (c : In_ok-classes g) → AreClassLists (field_of (g.F.Field.arithmetic c.args.complex.now.0) c.args.complex.now.1 c.args.partition.now) (items_of c.in_ok-classes.classes.items)
+classes : (g : Over) (c : In_ok-classes g) → AreRecurrenceClasses c.args.complex.now.1.faces c.args.partition.now (items_of c.in_ok-classes.classes.items)
 classes g c =
     let steps = rw c.faces-faces.ensures.faces at c.in_ok-digraph.ensures.steps in
     let reach = rw c.faces-faces.ensures.faces at c.in_ok-digraph.ensures.reach in
-    class_lists (field_of (g.F.Field.arithmetic c.args.complex.now.0) c.args.complex.now.1 c.args.partition.now) (is_field g c) c.in_ok-digraph.digraph (omega (arith, steps.count, c.requires.count)) reach c.in_ok-grading.grading.class_of
-    (items_of c.in_ok-classes.classes.items) c.in_ok-grading.ensures.classes c.in_ok-classes.ensures
+    gathered_classes (field_of (g.F.Field.arithmetic c.args.complex.now.0) c.args.complex.now.1 c.args.partition.now) (is_field g c) c.in_ok-digraph.digraph (omega (arith, steps.count, c.requires.count)) reach c.in_ok-grading.grading.class_of
+    (items_of c.in_ok-classes.classes.items) c.in_ok-grading.ensures.classes (rw c.classes.ensures at c.in_ok-classes.ensures)
 
 -- reach of cells by their classes
 cell_reach : (g : Over) (c : In_ok-sets g) (a b : ℕ) → a < length c.args.partition.now → b < length c.args.partition.now → (is_at_or_below c.in_ok-grading.grading a b ≡ true) ↔ Reaches (Step c.args.complex.now.1.faces c.args.partition.now) b a
@@ -41,11 +42,15 @@ all_counted g c =
     subst (λ (n : ℕ). AreCountedSoFar (g.F.Field.arithmetic c.args.complex.now.0) c.args.complex.now.1 c.args.partition.now (items_of c.in_ok-classes.classes.items) n (items_of c.in_ok-sets.sets.items) (items_of c.in_ok-sets.numbers.items))
     (sym (length-items_of c.in_ok-classes.classes.items)) c.in_ok-sets.ensures
 
-finest : (g : Over) (c : In_ok-sets g) (d : In_ok-classes g) → AreClassLists (field_of (g.F.Field.arithmetic c.args.complex.now.0) c.args.complex.now.1 c.args.partition.now) (items_of c.in_ok-classes.classes.items)
+finest : (g : Over) (c : In_ok-sets g) (d : In_ok-classes g) → AreRecurrenceClasses c.args.complex.now.1.faces c.args.partition.now (items_of c.in_ok-classes.classes.items)
     → IsField (field_of (g.F.Field.arithmetic c.args.complex.now.0) c.args.complex.now.1 c.args.partition.now) → IsFinestDecomposition (g.F.Field.arithmetic c.args.complex.now.0) c.args.complex.now.1 c.args.partition.now (items_of c.in_ok-sets.sets.items)
 finest g c d are ok =
     finest_decomposition {F = g.F.Field.arithmetic c.args.complex.now.0} c.args.complex.now.1 c.args.partition.now (items_of c.in_ok-classes.classes.items) (items_of c.in_ok-sets.sets.items) (items_of c.in_ok-sets.numbers.items) are (all_counted g c)
     c.in_ok-grading.grading (cell_reach g c) ok
+
+pub gathered-requires-clause-in_order : goal.gathered-requires-clause-in_order
+gathered-requires-clause-in_order g c =
+    rw c.classes.ensures (λ x k lx lk. let classes = c.in_ok-grading.ensures.classes in classes.in_order x k (omega (arith, lx, classes.count)) lk)
 
 pub counted-requires-clause-field : goal.counted-requires-clause-field
 counted-requires-clause-field g c = is_field g (goal.at.counted-requires-clause-field g c).In_ok-classes

@@ -1,11 +1,8 @@
-use Rattle.std.proofs.Common.{◌≡◌}
-use Rattle.std.specs.List.{flat_map, range_with_len}
-use Rattle.conley_tool.specs.Texts.{line_at}
-use Rattle.conley_tool.specs.Members.{IsNext}
+use Rattle.std.proofs.Common.{◌≡◌, take}
+use Rattle.std.specs.List.{flat_map}
+use Rattle.conley_walk.specs.Lists.{items_of}
+use Rattle.conley_tool.specs.Texts.{class_line}
 use Rattle.conley_tool.proofs.classes.classes_text.Given as goal
 
-abbrev pub invariant-loop-x : goal.invariant-loop-x
-invariant-loop-x l = record {
-  text : l.text.items ≡ flat_map (λ x. line_at (l.problem.complex.1.labels) l.class_of.items x) (range_with_len 0 l.x);
-  next : IsNext l.class_of.items l.next l.x;
-}
+abbrev pub invariant-loop-k : goal.invariant-loop-k
+invariant-loop-k l = l.text.items ≡ flat_map (class_line l.problem.complex.1.labels) (take l.k (items_of l.classes.items))

@@ -105,12 +105,19 @@ numbers_of-requires-clause-least c =
     rw c.deref-3.ensures.value
     (firsts_are_least c.count-count.result (items_of c.args.parts.now) (items_of c.in_ok-lists.lists.items) c.in_ok-lists.ensures c.in_default.ensures (rw c.in_default-2.is at c.in_ok-list.ensures) c.in_ok-least.least.items tells)
 
-pub parts_of-requires : goal.parts_of-requires
-parts_of-requires c =
-    let at = goal.at.parts_of-requires c in
+pub gathered-requires-clause-few : goal.gathered-requires-clause-few
+gathered-requires-clause-few c =
+    let at = goal.at.gathered-requires-clause-few c in
     let d = at.After-deref-4 in
     let few : length c.in_ok-least.least.items < 2 ^ 32 = omega (arith, (tells at.After-deref-3).count, c.count-count.ensures.count, c.count-count.ensures.order.few) in
-    rw c.deref-4.ensures.value (is_partition c.in_ok-least.least.items c.in_ok-part_of.part_of.items (numbers d).0 few (numbers d).1)
+    rw c.deref-4.ensures.value (is_partition c.in_ok-least.least.items c.in_ok-part_of.part_of.items (numbers d).0 few (numbers d).1).few
+
+pub gathered-requires-clause-in_order : goal.gathered-requires-clause-in_order
+gathered-requires-clause-in_order c =
+    let at = goal.at.gathered-requires-clause-in_order c in
+    let d = at.After-deref-4 in
+    let few : length c.in_ok-least.least.items < 2 ^ 32 = omega (arith, (tells at.After-deref-3).count, c.count-count.ensures.count, c.count-count.ensures.order.few) in
+    rw c.deref-4.ensures.value (is_partition c.in_ok-least.least.items c.in_ok-part_of.part_of.items (numbers d).0 few (numbers d).1).in_order
 
 pub returns-clause-parts : goal.returns-clause-parts
 returns-clause-parts c = whole (goal.at.returns-clause-parts c).After-deref-4 (tells (goal.at.returns-clause-parts c).After-deref-3)

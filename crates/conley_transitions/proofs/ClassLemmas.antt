@@ -1,27 +1,28 @@
 -- The recurrence classes as lists, from the numbers of the classes of transitions
-use Rattle.std.proofs.Common.{◌≡◌, inl, ◌<◌, ◌≤◌, ℕ, List, length, refl, sym, ◌∙◌, arith}
+use Rattle.std.proofs.Common.{◌≡◌, inl, ◌<◌, ◌≤◌, ℕ, List, [], length, refl, sym, ◌∙◌, subst, arith}
 use Rattle.std.specs.Prelude.{Contains, ◌↔◌, slice_index}
+use Rattle.std.proofs.lemmas.List.{get_or_default}
 use Rattle.std.proofs.lemmas.List.Elements.{Contains-get_or}
 use Rattle.conley_walk.specs.Walk.{Reaches}
 use Rattle.conley_walk.specs.Lists.{ListedStep}
+use Rattle.conley_walk.specs.Gathered.{AreGathered}
+use Rattle.conley_walk.proofs.AscendingLemmas.{ascending_once, same_numbers}
 use Rattle.conley_walk.proofs.WalkLemmas.{reaches_on, reaches_by_step, reaches_least}
 use Rattle.conley_walk.proofs.ListLemmas.{All-from_contained, place_of, at_least, step_begins}
 use Rattle.conley_faces.specs.Face.{IsCellList, IsLocallyClosed}
-use Rattle.conley_mvf.specs.Making.{ArePartsSoFar}
 use Rattle.conley_digraph.specs.Classes.{AreClasses}
 use Rattle.conley_transitions.specs.Field.{Field, IsField, IsCell, StepOf}
 use Rattle.conley_transitions.specs.Morse.{set_at}
 use Rattle.conley_transitions.proofs.FinestLemmas.{step_cells}
-use Rattle.conley_morse.specs.Making.{AreClassLists}
+use Rattle.conley_transitions.specs.Classes.{AreRecurrenceClasses}
 
 module _ (field : Field) (ok : IsField field) (digraph : List (List ℕ)) (count : length digraph ≡ length field.part_of) (reach : (x y : ℕ) → Reaches (ListedStep digraph) x y ↔ Reaches (StepOf field) x y) where
   -- what a cell reaches is a cell
   reached_cell : (x y : ℕ) → IsCell field x → Reaches (StepOf field) x y → IsCell field y
   reached_cell x y cell r = reaches_least (IsCell field) (λ a b s h. (step_cells field ok a b s).1) r cell
 
-  pub class_lists : (class_of : List ℕ) (lists : List (List ℕ)) → AreClasses digraph class_of → ArePartsSoFar class_of (length class_of) lists → AreClassLists field lists
-  class_lists class_of lists classes parts = record {
-    few = omega (arith, parts.few, classes.count, count);
+  pub gathered_classes : (class_of : List ℕ) (lists : List (List ℕ)) → AreClasses digraph class_of → AreGathered class_of (length class_of) lists → AreRecurrenceClasses field.faces field.part_of lists
+  gathered_classes class_of lists classes parts = record {
     non_empty = λ k lt.
         let w = parts.used k lt in
         let h : Contains (set_at lists k) w.0 = (parts.same k w.0).1 (w.1, w.2) in
@@ -68,7 +69,7 @@ module _ (field : Field) (ok : IsField field) (digraph : List (List ℕ)) (count
           Contains-get_or (set_at lists k) 0 0 (omega (arith, h.1))
 
 -- a class is a list of cells without a gap
-module _ (field : Field) (ok : IsField field) (lists : List (List ℕ)) (classes : AreClassLists field lists) (k : ℕ) where
+module _ (field : Field) (ok : IsField field) (lists : List (List ℕ)) (classes : AreRecurrenceClasses field.faces field.part_of lists) (k : ℕ) where
   pub class_cells : IsCellList field.faces (set_at lists k)
   class_cells = record {
     ascending = classes.ascending k;
@@ -81,3 +82,25 @@ module _ (field : Field) (ok : IsField field) (lists : List (List ℕ)) (classes
       let down = reaches_by_step {Step = StepOf field} {x = x} {y = y} (inl gap.down) in
       let further = reaches_by_step {Step = StepOf field} {x = y} {y = z} (inl gap.further) in
       gap.outside ((classes.same k x y gap.upper).1 (record { there = down; back = reaches_on further back.there }))
+
+-- the first cell of one list is below that of the other
+abbrev pub IsFirstBelow : List ℕ → List ℕ → Type 0
+IsFirstBelow a b = slice_index a 0 < slice_index b 0
+
+-- a class of one list of classes is one of the other
+module _ (faces : List (List ℕ)) (part_of : List ℕ) (a b : List (List ℕ)) (first : AreRecurrenceClasses faces part_of a) (second : AreRecurrenceClasses faces part_of b) where
+  class_in : (cells : List ℕ) → Contains a cells → Contains b cells
+  class_in cells at =
+      let x = slice_index (set_at a at.0) 0 in
+      let here : Contains (set_at a at.0) x = Contains-get_or (set_at a at.0) 0 0 (first.non_empty at.0 at.1) in
+      let there = second.all x (first.cells at.0 x here) in
+      let same : set_at a at.0 ≡ set_at b there.0 = same_numbers (set_at a at.0) (set_at b there.0) (first.ascending at.0) (second.ascending there.0) (λ y. (
+        (λ h. (second.same there.0 x y there.1.1).1 ((first.same at.0 x y here).0 h)),
+        (λ h. (first.same at.0 x y here).1 ((second.same there.0 x y there.1.1).0 h)),
+      )) in
+      let is : set_at b there.0 ≡ cells = sym same ∙ get_or_default a at.0 [] cells at.1 ∙ at.2 in
+      subst (λ (s : List ℕ). Contains b s) is (Contains-get_or b there.0 [] there.1.0)
+
+pub classes_once : (faces : List (List ℕ)) (part_of : List ℕ) (a b : List (List ℕ)) → AreRecurrenceClasses faces part_of a → AreRecurrenceClasses faces part_of b → a ≡ b
+classes_once faces part_of a b first second =
+    ascending_once IsFirstBelow (λ x y less more. omega arith) [] a b first.in_order second.in_order (λ cells. (class_in faces part_of a b first second cells, class_in faces part_of b a second first cells))
