@@ -1,5 +1,6 @@
 pub mod ChainLemmas
 pub mod PlusLemmas
+pub mod AppendLemmas
 pub mod MatrixLemmas
 pub mod FaultLemmas
 pub mod ColumnLemmas
@@ -12,3 +13,4 @@ pub mod ReadingLemmas
 pub mod CodeLemmas
 pub mod EntriesLemmas
 pub mod RunLemmas
+pub mod TransposeLemmas

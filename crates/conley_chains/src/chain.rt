@@ -1,4 +1,4 @@
-ghost use Rattle.std.specs.Prelude.{◌≡◌, ◌≢◌, ◌<◌, [], All, IfOk, OnOk, IfSome, IfNone, ℕ, length, map, slice_index, slice_index_or, drop, ◌≤◌, ◌==◌, if◌then◌else◌, ◌↔◌, ◌^◌, ◌-◌, IfErr};
+ghost use Rattle.std.specs.Prelude.{◌≡◌, ◌≢◌, ◌<◌, [], true, false, take, All, IfOk, OnOk, IfSome, IfNone, ℕ, length, map, slice_index, slice_index_or, drop, ◌≤◌, ◌==◌, if◌then◌else◌, ◌↔◌, ◌^◌, ◌-◌, IfErr};
 ghost use Rattle.conley_algebra.specs.Others.{other};
 ghost use Rattle.std.specs.List.Sorted.{IsStrictlyIncreasing};
 ghost use Rattle.conley_chains.specs.Chain.{coefficient, IsChain, HasCodes, first_place};
@@ -38,6 +38,15 @@ impl Chain {
         Chain {
             kept: SmallVec::new(alloc),
         }
+    }
+
+    /// The chain that keeps nothing yet, with room for a number of entries.
+    pub(crate) fn with_room(alloc: Global, count: usize) -> Result<Chain, NoMemory>
+        ensures { IfOk result (λ chain. chain ≡ []) }
+    {
+        Ok(Chain {
+            kept: SmallVec::with_capacity(alloc, count)?,
+        })
     }
 
     /// The chain with these entries, whose places ascend and are distinct, and of which none is zero.
@@ -130,7 +139,7 @@ impl Chain {
     }
 
     /// A scalar at a place beyond all others. Zero isn't kept.
-    fn put(&mut self, place: u32, scalar: Scalar) -> Result<(), NoMemory>
+    pub(crate) fn put(&mut self, place: u32, scalar: Scalar) -> Result<(), NoMemory>
         requires { All (λ e. e.0 < place) self.old }
         ensures codes { OnOk result ((place' : ℕ) → coefficient self.new place' ≡ (if place' == place then scalar else coefficient self.old place')) }
         ensures places { OnOk result (All (λ e. e.0 ≤ place) self.new) }
@@ -159,7 +168,7 @@ impl Chain {
     {
         let a = self.entries();
         let b = other.entries();
-        let mut sum = Chain::new(alloc);
+        let mut sum = Chain::with_room(alloc, a.len().saturating_add(b.len()))?;
         let mut i = 0;
         let mut j = 0;
         while i < a.len() || j < b.len() {
@@ -171,18 +180,76 @@ impl Chain {
                 i += 1;
             } else if q < p {
                 let f = b[j];
-                sum.put(f.0, field.mul(by, f.1))?;
+                sum.put(f.0, times(field, by, f.1))?;
                 j += 1;
             } else {
                 let e = a[i];
                 let f = b[j];
-                sum.put(e.0, field.add(e.1, field.mul(by, f.1)))?;
+                sum.put(e.0, field.add(e.1, times(field, by, f.1)))?;
                 i += 1;
                 j += 1;
             }
         }
         sum.entries();
         Ok(sum)
+    }
+
+    /// The chain gains `by` times another, in place: what lies before all places of the other stays. Where less than half stays, both are
+    /// put into a new list.
+    pub fn add_scaled<F: Field>(
+        &mut self,
+        alloc: Global,
+        field: &F,
+        by: Scalar,
+        other: &Chain,
+    ) -> Result<(), NoMemory>
+        requires codes { HasCodes (F.arithmetic field.now) self.old }
+        requires by_below { by < (F.arithmetic field.now).order }
+        requires other_codes { HasCodes (F.arithmetic field.now) other.now }
+        ensures sum { OnOk result (IsChainSum (F.arithmetic field.now) self.old by other.now self.new) }
+        ensures codes { OnOk result (HasCodes (F.arithmetic field.now) self.new) }
+    {
+        if starts_beyond(other.entries(), self.entries()) {
+            return self.append(field, by, other);
+        }
+        let count = self.entries().len();
+        let first = other.entries()[0].0;
+        let before = count_before(self.entries(), first);
+        if before < count / 2 {
+            let sum = self.plus(alloc, field, by, other)?;
+            *self = sum;
+            return Ok(());
+        }
+        let rest = self.split_off(alloc, before)?;
+        let sum = rest.plus(alloc, field, by, other)?;
+        self.append(field, field.one(), &sum)?;
+        Ok(())
+    }
+
+    /// Takes away the entries from an index on.
+    fn split_off(&mut self, alloc: Global, index: usize) -> Result<Chain, NoMemory>
+        requires { index ≤ length self.old }
+        ensures kept { OnOk result (self.new ≡ take index self.old) }
+        ensures rest { IfOk result (λ rest. rest ≡ drop index self.old) }
+    {
+        let rest = Chain::from_pairs(alloc, &self.entries()[index..])?;
+        self.kept.truncate(index);
+        Ok(rest)
+    }
+
+    /// The same of a chain whose places lie beyond those of this one.
+    fn append<F: Field>(&mut self, field: &F, by: Scalar, other: &Chain) -> Result<(), NoMemory>
+        requires codes { HasCodes (F.arithmetic field.now) self.old }
+        requires by_below { by < (F.arithmetic field.now).order }
+        requires other_codes { HasCodes (F.arithmetic field.now) other.now }
+        requires beyond { All (λ e. e.0 < first_place other.now) self.old }
+        ensures sum { OnOk result (IsChainSum (F.arithmetic field.now) self.old by other.now self.new) }
+        ensures codes { OnOk result (HasCodes (F.arithmetic field.now) self.new) }
+    {
+        for e in other.entries() {
+            self.put(e.0, times(field, by, e.1))?;
+        }
+        Ok(())
     }
 
     /// The entries at the listed places, which ascend: the entry at the i-th of them stands at place i.
@@ -201,6 +268,35 @@ impl Chain {
         }
         Ok(part)
     }
+}
+
+/// `by` times a scalar, with no product where `by` is one.
+fn times<F: Field>(field: &F, by: Scalar, scalar: Scalar) -> Scalar
+    requires by_below { by < (F.arithmetic field.now).order }
+    requires below { scalar < (F.arithmetic field.now).order }
+    ensures { result ≡ (F.arithmetic field.now).mul by scalar }
+{
+    if by.code() == 1 {
+        scalar
+    } else {
+        field.mul(by, scalar)
+    }
+}
+
+/// Whether the first of some entries stands beyond all others.
+fn starts_beyond(entries: &[(u32, Scalar)], others: &[(u32, Scalar)]) -> bool
+    requires { IsChain others.now }
+    ensures beyond { result ≡ true → All (λ e. e.0 < first_place entries.now) others.now }
+    ensures most { first_place entries.now ≤ 2 ^ 32 }
+    ensures some { result ≡ false → (0 < length entries.now) × (0 < length others.now) }
+{
+    let first = next_place(entries, 0);
+    let count = others.len();
+    if count == 0 {
+        return true;
+    }
+    let last = others[count - 1];
+    (last.0 as u64) < first
 }
 
 /// Where a number stands in an ascending list.
@@ -247,6 +343,7 @@ fn next_place(entries: &[(u32, Scalar)], index: usize) -> u64
 /// How many of the entries stand before a place.
 fn count_before(entries: &[(u32, Scalar)], place: u32) -> usize
     requires { IsChain entries.now }
+    ensures within { result ≤ length entries.now }
     ensures before { (k : ℕ) (d : ℕ × ℕ) → k < result → (slice_index_or entries.now k d).0 < place }
     ensures after { (k : ℕ) (d : ℕ × ℕ) → result ≤ k → k < length entries.now → place ≤ (slice_index_or entries.now k d).0 }
 {

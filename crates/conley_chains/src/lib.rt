@@ -12,6 +12,7 @@ mod matrix;
 mod placing;
 #[cfg(test)]
 mod tests;
+mod transposing;
 
 pub use chain::Chain;
 pub use error::MatrixError;

@@ -1,5 +1,6 @@
 ghost use Rattle.std.specs.Prelude.{◌≡◌, ◌≢◌, ◌<◌, ◌≤◌, ◌==◌, ◌-◌, [], All, AllPairs, map, IfOk, IfErr, OnOk, OnErr, ℕ, ◌^◌, length, slice_index_or};
 ghost use Rattle.std.specs.List.Sorted.{IsStrictlyIncreasing};
+ghost use Rattle.conley_field.specs.Arithmetic.{Arithmetic};
 ghost use Rattle.conley_chains.specs.Chain.{coefficient, IsChain, HasCodes};
 ghost use Rattle.conley_chains.specs.Faults.{fault_within, code_at, IsFaultless, IsFirstFault};
 ghost use Rattle.conley_chains.specs.Sums.{IsImage, IsProduct, IsMatrixSum, AddsColumn, IsMatrixPart};
@@ -7,6 +8,7 @@ ghost use Rattle.conley_chains.specs.Placing.{placed_at, IsInOrder, AreApart, tr
 ghost use Rattle.conley_chains.specs.Matrix.{Table, entry, column_count, AllCodes, KeepsRows, AreColumns, IsTable};
 
 use crate::placing::{Placed, place_triples, sort_by_place};
+use crate::transposing::{empty_chains, row_lengths, spread};
 use crate::{Chain, MatrixError, NoMemory};
 use conley_field::{Field, Scalar};
 use std::alloc::Global;
@@ -268,6 +270,20 @@ impl Matrix {
             parts.push(self.column(*column).restrict(alloc, rows)?)?;
         }
         Ok(Matrix::from_columns(rows.len(), parts))
+    }
+
+    /// The matrix with rows and columns exchanged, in two passes over the entries, of which the first counts them.
+    pub fn transpose(&self, alloc: Global) -> Result<Matrix, NoMemory>
+        requires few { column_count self.now ≤ 2 ^ 32 }
+        ensures entries { IfOk result (λ turned. (row column : ℕ) → entry turned row column ≡ entry self.now column row) }
+        ensures table { IfOk result (λ turned. (K : Arithmetic) → AllCodes K self.now → IsTable K (column_count self.now) self.now.rows turned) }
+    {
+        let room = row_lengths(alloc, self.row_count, &self.kept)?;
+        let mut rows = empty_chains(alloc, &room)?;
+        for k in 0..self.kept.len() {
+            spread(&mut rows, k as u32, &self.kept[k])?;
+        }
+        Ok(Matrix::from_columns(self.kept.len(), rows))
     }
 }
 

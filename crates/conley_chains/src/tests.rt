@@ -141,3 +141,41 @@ fn a_product_over_many_columns(rt: HostRuntime) -> Result<(), Fail> {
     assert_eq!(rt; product.entry(0, 0).code(), 2);
     Ok(())
 }
+
+#[test]
+fn rows_and_columns_exchanged(rt: HostRuntime) -> Result<(), Fail> {
+    let alloc = rt.alloc();
+    let entries = [(0, 0, 2), (2, 0, 1), (0, 1, 3)];
+    let matrix = Matrix::from_entries(alloc, &FIVE, 3, 2, &entries)?;
+    let turned = matrix.transpose(alloc)?;
+    assert!(rt; turned.rows() == 2 && turned.columns() == 3);
+    assert!(rt; turned.column(0).entries() == [(0, Scalar::of(2)), (1, Scalar::of(3))].as_slice());
+    assert!(rt; turned.column(1).entries().is_empty());
+    assert!(rt; turned.column(2).entries() == [(0, Scalar::of(1))].as_slice());
+    Ok(())
+}
+
+#[test]
+fn a_chain_gains_another(rt: HostRuntime) -> Result<(), Fail> {
+    let alloc = rt.alloc();
+    for (other, codes) in [
+        ([(31, 1), (40, 4)], [0, 1, 3, 4, 2, 2]),
+        ([(9, 3), (30, 4)], [0, 1, 3, 0, 0, 0]),
+        ([(10, 1), (30, 1)], [0, 1, 3, 4, 4, 0]),
+        ([(1, 1), (2, 2)], [2, 0, 3, 4, 2, 0]),
+    ] {
+        let mut chain = Chain::from_entries(alloc, &FIVE, &[(2, 1), (7, 3), (9, 4), (30, 2)])?;
+        let gained = Chain::from_entries(alloc, &FIVE, &other)?;
+        chain.add_scaled(alloc, &FIVE, Scalar::of(2), &gained)?;
+        let found = [
+            chain.entry(1).code(),
+            chain.entry(2).code(),
+            chain.entry(7).code(),
+            chain.entry(9).code(),
+            chain.entry(30).code(),
+            chain.entry(31).code(),
+        ];
+        assert_eq!(rt; found, codes, "{other:?}");
+    }
+    Ok(())
+}

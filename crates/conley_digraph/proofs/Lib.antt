@@ -1,3 +1,11 @@
 pub mod TurningLemmas
 pub mod NumberingLemmas
 pub mod RowLemmas
+pub mod StackLemmas
+pub mod MeetLemmas
+pub mod MergeLemmas
+pub mod LookLemmas
+pub mod CloseLemmas
+pub mod TurnLemmas
+pub mod ClosingLemmas
+pub mod JoinLemmas

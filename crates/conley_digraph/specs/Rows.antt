@@ -1,21 +1,45 @@
--- A node of each class, and the rows of bits that say which of these nodes reach which.
---     IsInOrder class_of               each smaller number is that of an earlier node
---     AreNodesOf class_of nodes n      number c of the nodes is one of the first n, of class c; each class of the first n nodes has one
---     AreRowsOf lists nodes n rows     for the first n nodes, bit b of row c says whether node c reaches node b
-use Rattle.std.specs.Prelude.{◌≡◌, ◌<◌, ◌≤◌, ◌*◌, ◌↔◌, ℕ, List, All, true, length, slice_index}
+-- Rows of bits that say which classes reach which. The class of a class is that of its nodes.
+--     IsClosingOrder lists class_of order           these nodes, one of each class, come after those of the other classes that they reach
+--     IsRowOf lists class_of count x row            bit b of the row says whether node x reaches class b
+--     HaveRows lists class_of rows x                the heads of node x are of its class, or of a class that has its row
+--     IsRowSoFar lists class_of count class row     a row in the making: it is closed under reach from other classes
+--     JoinsHeads old new class_of heads             the bits of these heads are set besides
+--     AreRowsSoFar lists class_of order n rows      the classes of the first n nodes of the order have their rows
+--     AreRowsOf lists class_of rows                 each class has its row
+use Rattle.std.specs.Prelude.{◌≡◌, ◌≢◌, ◌⊎◌, ◌+◌, ◌/◌, ◌<◌, ◌↔◌, ℕ, List, [], Contains, length, slice_index, slice_index_or}
 use Rattle.conley_walk.specs.Walk.{Reaches}
 use Rattle.conley_walk.specs.Lists.{ListedStep}
-use Rattle.conley_order.specs.ClassRows.{row_bit}
+use Rattle.conley_order.specs.ClassRows.{word_bit}
 
-abbrev pub IsInOrder : List ℕ → Type 0
-IsInOrder class_of = (x k : ℕ) → x < length class_of → k < slice_index class_of x → (y : ℕ) × (y < x) × (slice_index class_of y ≡ k)
+pub record IsClosingOrder (lists : List (List ℕ)) (class_of order : List ℕ) : Type 0 where
+  pub nodes : (k : ℕ) → k < length order → slice_index order k < length lists
+  pub all : (x : ℕ) → x < length lists → (k : ℕ) × (k < length order) × (slice_index class_of x ≡ slice_index class_of (slice_index order k))
+  pub steps : (k x y : ℕ) → k < length order → x < length lists → slice_index class_of x ≡ slice_index class_of (slice_index order k) → ListedStep lists x y →
+      (slice_index class_of y ≡ slice_index class_of x) ⊎ ((j : ℕ) × (j < k) × (slice_index class_of y ≡ slice_index class_of (slice_index order j)))
 
-pub record AreNodesOf (class_of nodes : List ℕ) (n : ℕ) : Type 0 where
-  pub few : length nodes ≤ n
-  pub node : (c : ℕ) → c < length nodes → (slice_index nodes c < n) × (slice_index class_of (slice_index nodes c) ≡ c)
-  pub all : (x : ℕ) → x < n → slice_index class_of x < length nodes
+pub record IsRowOf (lists : List (List ℕ)) (class_of : List ℕ) (count x : ℕ) (row : List ℕ) : Type 0 where
+  pub width : length row ≡ count / 64 + 1
+  pub bits : (y : ℕ) → y < length lists → (word_bit row (slice_index class_of y) ≡ 1) ↔ Reaches (ListedStep lists) x y
 
-pub record AreRowsOf (lists : List (List ℕ)) (nodes : List ℕ) (n : ℕ) (rows : List (List ℕ)) : Type 0 where
-  pub height : length rows ≡ n
-  pub width : All (λ row. length nodes ≤ 64 * length row) rows
-  pub bits : (c b : ℕ) → c < n → b < length nodes → (row_bit rows c b ≡ true) ↔ Reaches (ListedStep lists) (slice_index nodes c) (slice_index nodes b)
+abbrev pub HaveRows : List (List ℕ) → List ℕ → List (List ℕ) → ℕ → Type 0
+HaveRows lists class_of rows x = (y : ℕ) → ListedStep lists x y →
+    (slice_index class_of y ≡ slice_index class_of x) ⊎ IsRowOf lists class_of (length rows) y (slice_index_or rows (slice_index class_of y) [])
+
+pub record IsRowSoFar (lists : List (List ℕ)) (class_of : List ℕ) (count class : ℕ) (row : List ℕ) : Type 0 where
+  pub width : length row ≡ count / 64 + 1
+  pub own : word_bit row class ≡ 1
+  pub sound : (x y : ℕ) → x < length lists → y < length lists → slice_index class_of x ≡ class → word_bit row (slice_index class_of y) ≡ 1 → Reaches (ListedStep lists) x y
+  pub full : (y z : ℕ) → y < length lists → z < length lists → slice_index class_of y ≢ class → word_bit row (slice_index class_of y) ≡ 1 → Reaches (ListedStep lists) y z → word_bit row (slice_index class_of z) ≡ 1
+
+pub record JoinsHeads (old new class_of heads : List ℕ) : Type 0 where
+  pub kept : (b : ℕ) → word_bit old b ≡ 1 → word_bit new b ≡ 1
+  pub joined : (y : ℕ) → Contains heads y → word_bit new (slice_index class_of y) ≡ 1
+
+abbrev pub AreRowsSoFar : List (List ℕ) → List ℕ → List ℕ → ℕ → List (List ℕ) → Type 0
+AreRowsSoFar lists class_of order n rows = (k x : ℕ) → k < n → x < length lists → slice_index class_of x ≡ slice_index class_of (slice_index order k) →
+    IsRowOf lists class_of (length rows) x (slice_index_or rows (slice_index class_of x) [])
+
+pub record AreRowsOf (lists : List (List ℕ)) (class_of : List ℕ) (rows : List (List ℕ)) : Type 0 where
+  pub below : (x : ℕ) → x < length lists → slice_index class_of x < length rows
+  pub used : (c : ℕ) → c < length rows → (x : ℕ) × (x < length lists) × (slice_index class_of x ≡ c)
+  pub row : (x : ℕ) → x < length lists → IsRowOf lists class_of (length rows) x (slice_index_or rows (slice_index class_of x) [])

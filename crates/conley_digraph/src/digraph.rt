@@ -8,8 +8,9 @@ ghost use Rattle.conley_order.specs.ClassRows.{is_at_or_below};
 ghost use Rattle.conley_digraph.specs.Heads.{AreHeads};
 ghost use Rattle.conley_digraph.specs.Classes.{AreClasses};
 
-use crate::numbering::classes;
-use crate::rows::{class_rows, nodes_of};
+use crate::numbering::{classes, renumbered};
+use crate::rows::class_rows;
+use crate::search::closing_of;
 use crate::{DigraphError, NoMemory};
 use conley_order::ReachRows;
 use conley_walk::{all_ordered, first_out_of_range};
@@ -79,9 +80,9 @@ impl Digraph {
         ensures classes { IfOk result (λ rows. AreClasses self.now rows.class_of) }
         ensures reach { IfOk result (λ rows. (a b : ℕ) → a < length self.now → b < length self.now → (is_at_or_below rows a b ≡ true) ↔ Reaches (ListedStep self.now) b a) }
     {
-        let class_of = classes(alloc, &self.heads)?;
-        let nodes = nodes_of(alloc, &class_of)?;
-        let rows = class_rows(alloc, &self.heads, &nodes)?;
+        let closing = closing_of(alloc, &self.heads)?;
+        let class_of = renumbered(alloc, &closing.numbers, closing.roots.len())?;
+        let rows = class_rows(alloc, &self.heads, &class_of, &closing.roots)?;
         Ok(ReachRows::from_rows(class_of, rows))
     }
 }

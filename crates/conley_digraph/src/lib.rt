@@ -3,14 +3,18 @@
 //! Open specs/Heads.antt for what a digraph keeps and specs/Classes.antt for classes. Walks and reach are those of conley_walk, rows of bits those of conley_order.
 #![tactic(auto)]
 
+mod bits;
 mod digraph;
 mod error;
 mod numbering;
 mod rows;
+mod search;
 mod turning;
 
 pub use digraph::Digraph;
 pub use error::DigraphError;
+pub use numbering::classes;
+pub use turning::turned_round;
 
 /// Want of memory.
 pub type NoMemory = std::alloc::AllocError;

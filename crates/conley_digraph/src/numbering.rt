@@ -1,46 +1,46 @@
 //! The numbers of classes of mutual reach.
 
-ghost use Rattle.std.specs.Prelude.{◌≡◌, ◌<◌, ◌≤◌, ◌^◌, ℕ, IfOk, length, slice_index};
+ghost use Rattle.std.specs.Prelude.{◌≡◌, ◌<◌, ◌≤◌, ◌^◌, ℕ, All, IfOk, length, slice_index};
 ghost use Rattle.conley_walk.specs.Lists.{items_of, IsDigraph};
 ghost use Rattle.conley_digraph.specs.Classes.{AreClasses};
-ghost use Rattle.conley_digraph.specs.Numbering.{GivesNumber};
+ghost use Rattle.conley_digraph.specs.Numbering.{IsRenumbered};
 
-use crate::turning::turned_round;
-use conley_walk::reached;
+use crate::search::closing_of;
 use std::alloc::{AllocError, Global};
 
-/// Gives the number to each node that has both marks.
-fn give_number(class_of: &mut [u32], there: &[bool], back: &[bool], number: u32)
-    requires there { length there.now ≡ length class_of.old }
-    requires back { length back.now ≡ length class_of.old }
-    ensures { GivesNumber class_of.old class_of.new there.now back.now number }
+/// The same classes, numbered from 0 in the order of their least nodes.
+pub(crate) fn renumbered(
+    alloc: Global,
+    numbers: &[usize],
+    count: usize,
+) -> Result<Vec<u32>, AllocError>
+    requires few { length numbers.now < 2 ^ 32 }
+    requires below { All (λ k. k < count) numbers.now }
+    ensures { IfOk result (λ class_of. IsRenumbered numbers.now class_of.items (length numbers.now)) }
 {
-    for y in 0..class_of.len() {
-        if there[y] && back[y] {
-            class_of[y] = number;
+    let mut renamed = vec![in alloc; None; count]?;
+    let mut class_of = Vec::new(alloc);
+    let mut next = 0u32;
+    for number in numbers {
+        if let Some(class) = renamed[*number] {
+            class_of.push(class)?;
+        } else {
+            class_of.push(next)?;
+            renamed[*number] = Some(next);
+            next += 1;
         }
     }
+    Ok(class_of)
 }
 
 /// For each node the number of its class of mutual reach. Classes are numbered from 0 in the order of their least nodes.
-/// A search there and a search back are made for each class, and none is kept.
-pub(crate) fn classes(alloc: Global, steps: &[Vec<u32>]) -> Result<Vec<u32>, AllocError>
+/// Each step is looked at once.
+pub fn classes(alloc: Global, steps: &[Vec<u32>]) -> Result<Vec<u32>, AllocError>
     requires digraph { IsDigraph (items_of steps.now) }
     requires count { length steps.now < 2 ^ 32 }
     ensures classes { IfOk result (λ class_of. AreClasses (items_of steps.now) class_of.items) }
     ensures low { IfOk result (λ class_of. (x : ℕ) → x < length steps.now → slice_index class_of.items x ≤ x) }
 {
-    let turned = turned_round(alloc, steps)?;
-    let none = steps.len() as u32;
-    let mut class_of = vec![in alloc; none; steps.len()]?;
-    let mut next = 0;
-    for x in 0..none {
-        if class_of[x as usize] == none {
-            let there = reached(alloc, steps, x)?;
-            let back = reached(alloc, &turned, x)?;
-            give_number(&mut class_of, &there, &back, next);
-            next += 1;
-        }
-    }
-    Ok(class_of)
+    let closing = closing_of(alloc, steps)?;
+    renumbered(alloc, &closing.numbers, closing.roots.len())
 }

@@ -1,75 +1,95 @@
-//! Rows of bits that say which classes reach which.
+//! Rows of bits that say which classes reach which, each joined from the rows of the classes that its class steps into.
 
-ghost use Rattle.std.specs.Prelude.{◌≡◌, ◌<◌, ◌≤◌, ◌*◌, ◌^◌, ◌↔◌, ℕ, All, IfOk, length, map, slice_index, slice_index_or, vec_len, false};
-ghost use Rattle.conley_walk.specs.Walk.{Reaches};
-ghost use Rattle.conley_walk.specs.Lists.{items_of, ListedStep, IsDigraph};
-ghost use Rattle.conley_order.specs.ClassRows.{word_bit};
-ghost use Rattle.conley_digraph.specs.Rows.{IsInOrder, AreNodesOf, AreRowsOf};
+ghost use Rattle.std.specs.Prelude.{◌≡◌, ◌<◌, ◌^◌, ◌↔◌, ℕ, [], All, Contains, IfOk, length, slice_index, slice_index_or};
+ghost use Rattle.conley_walk.specs.Lists.{items_of, IsDigraph};
+ghost use Rattle.conley_digraph.specs.Classes.{AreClasses};
+ghost use Rattle.conley_digraph.specs.Rows.{IsClosingOrder, IsRowOf, HaveRows, IsRowSoFar, JoinsHeads, AreRowsOf};
 
-use conley_order::words_of;
-use conley_walk::reached;
+use crate::bits::{has_bit, join, set_bit};
+use conley_walk::gathered;
 use std::alloc::{AllocError, Global};
 
-/// The least node of each class.
-pub(crate) fn nodes_of(alloc: Global, class_of: &[u32]) -> Result<Vec<u32>, AllocError>
-    requires count { length class_of.now < 2 ^ 32 }
-    requires order { IsInOrder class_of.now }
-    ensures { IfOk result (λ nodes. AreNodesOf class_of.now nodes.items (length class_of.now)) }
+/// Joins the rows of the classes of the node's heads that the row doesn't have yet.
+fn join_heads(row: &mut [u64], steps: &[Vec<u32>], class_of: &[u32], rows: &[Vec<u64>], x: u32)
+    requires digraph { IsDigraph (items_of steps.now) }
+    requires classes { AreClasses (items_of steps.now) class_of.now }
+    requires below { All (λ c. c < length rows.now) class_of.now }
+    requires node { x < length steps.now }
+    requires rows { HaveRows (items_of steps.now) class_of.now (items_of rows.now) x }
+    requires row { IsRowSoFar (items_of steps.now) class_of.now (length rows.now) (slice_index class_of.now x) row.old }
+    ensures row { IsRowSoFar (items_of steps.now) class_of.now (length rows.now) (slice_index class_of.now x) row.new }
+    ensures heads { JoinsHeads row.old row.new class_of.now (slice_index_or (items_of steps.now) x []) }
 {
-    let mut nodes = Vec::new(alloc);
-    for x in 0..class_of.len() as u32 {
-        if class_of[x as usize] as usize == nodes.len() {
-            nodes.push(x)?;
+    for y in &steps[x as usize] {
+        let class = class_of[*y as usize];
+        if !has_bit(row, class) {
+            join(row, &rows[class as usize]);
         }
     }
-    Ok(nodes)
 }
 
-/// The marks of these nodes.
-fn marks_of(alloc: Global, marks: &[bool], nodes: &[u32]) -> Result<Vec<bool>, AllocError>
-    requires { All (λ x. x < length marks.now) nodes.now }
-    ensures { IfOk result (λ row. row.items ≡ map (λ x. slice_index_or marks.now x false) nodes.now) }
+/// The row of a class with these members.
+fn row_of(
+    alloc: Global,
+    steps: &[Vec<u32>],
+    class_of: &[u32],
+    rows: &[Vec<u64>],
+    class: u32,
+    members: &[u32],
+) -> Result<Vec<u64>, AllocError>
+    requires digraph { IsDigraph (items_of steps.now) }
+    requires classes { AreClasses (items_of steps.now) class_of.now }
+    requires below { All (λ c. c < length rows.now) class_of.now }
+    requires class { class < length rows.now }
+    requires members { (x : ℕ) → Contains members.now x ↔ ((x < length steps.now) × (slice_index class_of.now x ≡ class)) }
+    requires rows { (x : ℕ) → x < length steps.now → slice_index class_of.now x ≡ class → HaveRows (items_of steps.now) class_of.now (items_of rows.now) x }
+    ensures { IfOk result (λ row. (x : ℕ) → x < length steps.now → slice_index class_of.now x ≡ class → IsRowOf (items_of steps.now) class_of.now (length rows.now) x row.items) }
 {
-    let mut row = Vec::new(alloc);
-    for x in nodes {
-        row.push(marks[*x as usize])?;
+    let mut row = vec![in alloc; 0u64; rows.len() / 64 + 1]?;
+    set_bit(&mut row, class);
+    for x in members {
+        join_heads(&mut row, steps, class_of, rows, *x);
     }
     Ok(row)
 }
 
-/// Bit b says whether the node reaches number b of the nodes.
-fn row_of(
-    alloc: Global,
-    steps: &[Vec<u32>],
-    nodes: &[u32],
-    node: u32,
-) -> Result<Vec<u64>, AllocError>
-    requires digraph { IsDigraph (items_of steps.now) }
-    requires count { length nodes.now < 2 ^ 32 }
-    requires nodes { All (λ x. x < length steps.now) nodes.now }
-    requires node { node < length steps.now }
-    ensures width { IfOk result (λ row. length nodes.now ≤ 64 * vec_len row) }
-    ensures bits { IfOk result (λ row. (b : ℕ) → b < length nodes.now → (word_bit row.items b ≡ 1) ↔ Reaches (ListedStep (items_of steps.now)) node (slice_index nodes.now b)) }
+/// This many rows without words.
+fn empty_rows(alloc: Global, count: usize) -> Result<Vec<Vec<u64>>, AllocError>
+    ensures { IfOk result (λ rows. length rows.items ≡ count) }
 {
-    let marks = reached(alloc, steps, node)?;
-    let row = marks_of(alloc, &marks, nodes)?;
-    words_of(alloc, &row)
+    let mut rows = Vec::new(alloc);
+    for turn in 0..count {
+        rows.push(Vec::new(alloc))?;
+    }
+    Ok(rows)
 }
 
-/// For each of the nodes the row of those that it reaches. A search is made from each, and none is kept.
+/// For each class the row of those that it reaches, made in the order of these nodes. Each step is looked at once.
 pub(crate) fn class_rows(
     alloc: Global,
     steps: &[Vec<u32>],
-    nodes: &[u32],
+    class_of: &[u32],
+    order: &[u32],
 ) -> Result<Vec<Vec<u64>>, AllocError>
     requires digraph { IsDigraph (items_of steps.now) }
-    requires count { length nodes.now < 2 ^ 32 }
-    requires nodes { All (λ x. x < length steps.now) nodes.now }
-    ensures { IfOk result (λ rows. AreRowsOf (items_of steps.now) nodes.now (length nodes.now) (items_of rows.items)) }
+    requires few { length steps.now < 2 ^ 32 }
+    requires classes { AreClasses (items_of steps.now) class_of.now }
+    requires order { IsClosingOrder (items_of steps.now) class_of.now order.now }
+    ensures { IfOk result (λ rows. AreRowsOf (items_of steps.now) class_of.now (items_of rows.items)) }
 {
-    let mut rows = Vec::new(alloc);
-    for node in nodes {
-        rows.push(row_of(alloc, steps, nodes, *node)?)?;
+    let members = gathered(alloc, class_of)?;
+    let mut rows = empty_rows(alloc, members.len())?;
+    for x in order {
+        let class = class_of[*x as usize];
+        let row = row_of(
+            alloc,
+            steps,
+            class_of,
+            &rows,
+            class,
+            &members[class as usize],
+        )?;
+        rows[class as usize] = row;
     }
     Ok(rows)
 }

@@ -31,7 +31,7 @@ fn put_under_each(lists: &mut Vec<Vec<u32>>, heads: &[u32], x: u32) -> Result<()
 }
 
 /// The digraph with a step from y to x for each step from x to y.
-pub(crate) fn turned_round(alloc: Global, steps: &[Vec<u32>]) -> Result<Vec<Vec<u32>>, AllocError>
+pub fn turned_round(alloc: Global, steps: &[Vec<u32>]) -> Result<Vec<Vec<u32>>, AllocError>
     requires digraph { IsDigraph (items_of steps.now) }
     requires count { length steps.now < 2 ^ 32 }
     ensures { IfOk result (λ lists. IsTurnedRound (items_of steps.now) (items_of lists.items)) }

@@ -10,69 +10,113 @@ use Rattle.conley_algebra.specs.Entries.{Vector}
 use Rattle.conley_algebra.specs.Homology.{combination, IsExpressed, IsBasisModulo}
 use Rattle.conley_algebra.proofs.SumLemmas as sums
 use Rattle.conley_algebra.specs.Listing.{IsListing}
-use Rattle.conley_homology.specs.Homology.{IsCollected}
+use Rattle.conley_homology.specs.Homology.{AreListed, IsCounted, IsCollected}
+
+module _ (Q : ℕ → Type 0) where
+  pub listed-none : AreListed Q 0 []
+  listed-none = record {
+    most = omega arith;
+    listing = record {
+      within = λ i below. absurd (omega arith);
+      holds = λ i below. absurd (omega arith);
+      distinct = λ i j i_below. absurd (omega arith);
+      all = λ g below. absurd (omega arith);
+    };
+  }
+
+  pub listed-other : (n : ℕ) (list : List ℕ) → (Q n → ⊥) → AreListed Q n list → AreListed Q (n + 1) list
+  listed-other n list no_more a = record {
+    most = let m = a.most in omega arith;
+    listing = record {
+      within = λ i below. let w = a.listing.within i below in omega arith;
+      holds = a.listing.holds;
+      distinct = a.listing.distinct;
+      all = λ g below is. a.listing.all g (let differs : g ≢ n = (λ e. no_more (subst Q e is)) in omega arith) is;
+    };
+  }
+
+  pub listed-more : (n : ℕ) (list : List ℕ) → Q n → AreListed Q n list → AreListed Q (n + 1) (list ++ n ∷ [])
+  listed-more n list is a = record {
+    most = let m = a.most in omega (arith, count);
+    listing = record {
+      within = λ i below. elim (cases_eq i (length list)) [
+        | inl last ↦ let e = at_last i last in omega arith
+        | inr other ↦ let e = at_old i (omega (arith, count)) in let w = a.listing.within i (omega (arith, count)) in omega arith
+      ];
+      holds = λ i below. elim (cases_eq i (length list)) [
+        | inl last ↦ rw (at_last i last) is
+        | inr other ↦ rw (at_old i (omega (arith, count))) (a.listing.holds i (omega (arith, count)))
+      ];
+      distinct = λ i j i_below j_below same. elim (cases_eq i (length list)) [
+        | inl i_last ↦ elim (cases_eq j (length list)) [
+          | inl j_last ↦ i_last ∙ sym j_last
+          | inr other ↦ (let x = at_last i i_last in let y = at_old j (omega (arith, count)) in let w = a.listing.within j (omega (arith, count)) in absurd (omega arith))
+        ]
+        | inr i_other ↦ elim (cases_eq j (length list)) [
+          | inl j_last ↦ (let x = at_last j j_last in let y = at_old i (omega (arith, count)) in let w = a.listing.within i (omega (arith, count)) in absurd (omega arith))
+          | inr j_other ↦ a.listing.distinct i j (omega (arith, count)) (omega (arith, count)) (sym (at_old i (omega (arith, count))) ∙ same ∙ at_old j (omega (arith, count)))
+        ]
+      ];
+      all = λ g below here. elim (cases_eq g n) [
+        | inl e ↦ (length list, (omega (arith, count), at_last (length list) refl ∙ sym e))
+        | inr other ↦ let found = a.listing.all g (omega arith) here in let found_below : found.0 < length list = found.1.0 in (found.0, (omega (arith, count), at_old found.0 found_below ∙ found.1.1))
+      ];
+    };
+  } where
+    count : length (list ++ n ∷ []) ≡ length list + 1
+    count = length-append list (n ∷ [])
+
+    at_last : (i : ℕ) → i ≡ length list → get_or (list ++ n ∷ []) i 0 ≡ n
+    at_last i e = ap (λ (k : ℕ). get_or (list ++ n ∷ []) k 0) e ∙ get_or-append_seam list n [] 0
+
+    at_old : (i : ℕ) → i < length list → get_or (list ++ n ∷ []) i 0 ≡ get_or list i 0
+    at_old i below = get_or_append_left list (n ∷ []) 0 i below
+
+  pub counted-none : IsCounted Q 0 0
+  counted-none = ([], (refl, listed-none))
+
+  pub counted-other : (n count : ℕ) → (Q n → ⊥) → IsCounted Q n count → IsCounted Q (n + 1) count
+  counted-other n count no_more c = (c.0, (c.1.0, listed-other n c.0 no_more c.1.1))
+
+  pub counted-more : (n count : ℕ) → Q n → IsCounted Q n count → IsCounted Q (n + 1) (count + 1)
+  counted-more n count is c = (c.0 ++ n ∷ [], (length-append c.0 (n ∷ []) ∙ ap (λ (k : ℕ). k + 1) c.1.0, listed-more n c.0 is c.1.1))
 
 module _ (kept : List (List (ℕ × ℕ))) (Q : ℕ → Type 0) where
   pub collected-none : (before : List (List (ℕ × ℕ))) → IsCollected kept Q 0 0 before before
-  collected-none before = record {
-    list = [];
-    list_count = refl;
-    most = omega arith;
-    items = sym (append-nil before);
-    within = λ i below. absurd (omega arith);
-    holds = λ i below. absurd (omega arith);
-    distinct = λ i j i_below. absurd (omega arith);
-    all = λ g below. absurd (omega arith);
-  }
+  collected-none before = record { list = []; list_count = refl; listed = listed-none Q; items = sym (append-nil before) }
 
   pub collected-other : (n count : ℕ) (before after : List (List (ℕ × ℕ))) → (Q n → ⊥) → IsCollected kept Q n count before after → IsCollected kept Q (n + 1) count before after
-  collected-other n count before after no_more c = record {
-    list = c.list;
-    list_count = c.list_count;
-    most = let m = c.most in omega arith;
-    items = c.items;
-    within = λ i below. let w = c.within i below in omega arith;
-    holds = c.holds;
-    distinct = c.distinct;
-    all = λ g below is. c.all g (let differs : g ≢ n = (λ e. no_more (subst Q e is)) in omega arith) is;
-  }
+  collected-other n count before after no_more c = record { list = c.list; list_count = c.list_count; listed = listed-other Q n c.list no_more c.listed; items = c.items }
 
   pub collected-more : (n count : ℕ) (before after : List (List (ℕ × ℕ))) → Q n → IsCollected kept Q n count before after
       → IsCollected kept Q (n + 1) (count + 1) before (after ++ get_or kept n [] ∷ [])
   collected-more n count before after is c = record {
     list = c.list ++ n ∷ [];
     list_count = length-append c.list (n ∷ []) ∙ ap (λ (k : ℕ). k + 1) c.list_count;
-    most = let m = c.most in omega arith;
+    listed = listed-more Q n c.list is c.listed;
     items = ap (λ (xs : List (List (ℕ × ℕ))). xs ++ get_or kept n [] ∷ []) c.items ∙ append_assoc before (map (λ j. slice_index_or kept j []) c.list) (get_or kept n [] ∷ [])
         ∙ ap (λ (xs : List (List (ℕ × ℕ))). before ++ xs) (sym (map-append (λ j. slice_index_or kept j []) c.list (n ∷ [])));
-    within = λ i below. elim (cases_eq i count) [
-      | inl last ↦ let e = at_last i last in omega arith
-      | inr other ↦ let e = at_old i (omega arith) in let w = c.within i (omega arith) in omega arith
-    ];
-    holds = λ i below. elim (cases_eq i count) [
-      | inl last ↦ rw (at_last i last) is
-      | inr other ↦ rw (at_old i (omega arith)) (c.holds i (omega arith))
-    ];
-    distinct = λ i j i_below j_below same. elim (cases_eq i count) [
-      | inl i_last ↦ elim (cases_eq j count) [
-        | inl j_last ↦ i_last ∙ sym j_last
-        | inr other ↦ (let a = at_last i i_last in let b = at_old j (omega arith) in let w = c.within j (omega arith) in absurd (omega arith))
-      ]
-      | inr i_other ↦ elim (cases_eq j count) [
-        | inl j_last ↦ (let a = at_last j j_last in let b = at_old i (omega arith) in let w = c.within i (omega arith) in absurd (omega arith))
-        | inr j_other ↦ c.distinct i j (omega arith) (omega arith) (sym (at_old i (omega arith)) ∙ same ∙ at_old j (omega arith))
-      ]
-    ];
-    all = λ g below here. elim (cases_eq g n) [
-      | inl e ↦ (count, (omega arith, at_last count refl ∙ sym e))
-      | inr other ↦ let found = c.all g (omega arith) here in let found_below : found.0 < count = found.1.0 in (found.0, (omega arith, at_old found.0 found_below ∙ found.1.1))
-    ];
-  } where
-    at_last : (i : ℕ) → i ≡ count → get_or (c.list ++ n ∷ []) i 0 ≡ n
-    at_last i e = ap (λ (k : ℕ). get_or (c.list ++ n ∷ []) k 0) (e ∙ sym c.list_count) ∙ get_or-append_seam c.list n [] 0
+  }
 
-    at_old : (i : ℕ) → i < count → get_or (c.list ++ n ∷ []) i 0 ≡ get_or c.list i 0
-    at_old i below = get_or_append_left c.list (n ∷ []) 0 i (let e = c.list_count in omega arith)
+-- for each dimension below the level, a count
+pub record AreCounted (Q : ℕ → ℕ → Type 0) (n level : ℕ) (numbers : List ℕ) : Type 0 where
+  pub levels : length numbers ≡ level
+  pub counts : (k : ℕ) → k < level → IsCounted (Q k) n (get_or numbers k 0)
+
+module _ (Q : ℕ → ℕ → Type 0) (n : ℕ) where
+  pub numbers-none : AreCounted Q n 0 []
+  numbers-none = record { levels = refl; counts = λ k below. absurd (omega arith) }
+
+  pub numbers-more : (level count : ℕ) (numbers : List ℕ) → AreCounted Q n level numbers → IsCounted (Q level) n count → AreCounted Q n (level + 1) (numbers ++ count ∷ [])
+  numbers-more level count numbers a c = record {
+    levels = length-append numbers (count ∷ []) ∙ ap (λ (k : ℕ). k + 1) a.levels;
+    counts = λ k below. elim (cases_eq k level) [
+      | inl last ↦
+          let number : get_or (numbers ++ count ∷ []) k 0 ≡ count = ap (λ (j : ℕ). get_or (numbers ++ count ∷ []) j 0) (last ∙ sym a.levels) ∙ get_or-append_seam numbers count [] 0 in
+          rw (number, last) c
+      | inr other ↦ rw (get_or_append_left numbers (count ∷ []) 0 k (let e = a.levels in omega arith)) (a.counts k (omega arith))
+    ];
+  }
 
 -- for each dimension below the level, the cycles listed
 pub record IsGathered (kept : List (List (ℕ × ℕ))) (Q : ℕ → ℕ → Type 0) (n level : ℕ) (numbers : List ℕ) (cycles : List (List (ℕ × ℕ))) : Type 0 where
@@ -95,12 +139,8 @@ module _ (kept : List (List (ℕ × ℕ))) (Q : ℕ → ℕ → Type 0) (n : ℕ
       | inl last ↦ (
         (λ i. get_or c.list i 0),
         (
-          record {
-            within = λ i i_below. c.within i (subst (λ (t : ℕ). i < t) (number-last k last) i_below);
-            holds = λ i i_below. subst (λ (t : ℕ). Q t (get_or c.list i 0)) (sym last) (c.holds i (subst (λ (t : ℕ). i < t) (number-last k last) i_below));
-            distinct = λ i j i_below j_below. c.distinct i j (subst (λ (t : ℕ). i < t) (number-last k last) i_below) (subst (λ (t : ℕ). j < t) (number-last k last) j_below);
-            all = λ x x_below is. let found = c.all x x_below (subst (λ (t : ℕ). Q t x) last is) in (found.0, (subst (λ (t : ℕ). found.0 < t) (sym (number-last k last)) found.1.0, found.1.1));
-          },
+          subst (λ (t : ℕ). IsListing n (Q t) (get_or (numbers ++ count ∷ []) k 0) (λ i. get_or c.list i 0)) (sym last)
+              (subst (λ (t : ℕ). IsListing n (Q level) t (λ i. get_or c.list i 0)) (c.list_count ∙ sym (number-last k last)) c.listed.listing),
           λ i i_below. cycle-last k i last (subst (λ (t : ℕ). i < t) (number-last k last) i_below),
         ),
       )

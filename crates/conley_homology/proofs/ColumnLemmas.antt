@@ -1,5 +1,5 @@
 -- Chains with their boundaries: one cell, sums, and where they end.
-use Rattle.std.proofs.Common.{◌≡◌, ◌≢◌, ◌⊎◌, inl, inr, ℕ, zero, suc, ◌+◌, ◌<◌, ◌≤◌, true, cond, List, [], ◌∷◌, length, get_or, ap, sym, ◌∙◌, arith, refl, subst, Option, Some}
+use Rattle.std.proofs.Common.{◌≡◌, ◌≢◌, ◌⊎◌, inl, inr, ℕ, zero, suc, ◌+◌, ◌<◌, ◌≤◌, Bool, true, cond, List, [], ◌∷◌, length, get_or, ap, sym, ◌∙◌, arith, refl, subst, Option, Some}
 use Rattle.std.proofs.lemmas.Bool.{cases_Bool, cases_eq, cases_lt, eq-eqb, ne_eqb}
 use Rattle.std.proofs.lemmas.List.{get_or_default}
 use Rattle.conley_field.specs.Arithmetic.{Arithmetic, IsField}
@@ -14,7 +14,6 @@ use Rattle.conley_homology.specs.Reduced.{IsUpTo, IsColumn, EndsAt}
 use Rattle.conley_homology.specs.Own.{is_listed, own_entries, place_in, owner_at, vector_at, IsOwnComplex, IsDone, IsEnd, IsChainFor, IsLast, IsReducedSoFar}
 use Rattle.conley_lefschetz.specs.Listing.{dim_in}
 use Rattle.std.specs.List.Sorted.{IsStrictlyIncreasing}
-use Rattle.std.proofs.lemmas.List.Elements.{All-cons, All-nil}
 use Rattle.conley_homology.proofs.PlaceLemmas.{listed_place, place-distinct, place_before}
 
 module _ {F : Arithmetic} (laws : IsField F) (n : ℕ) (d : Entries) (dim place : ℕ → ℕ) where
@@ -135,22 +134,22 @@ IsEnd-last set chain e place up listed last below at = record {
 
 module _ {F : Arithmetic} (laws : IsField F) (m : Table) (dims set : List ℕ) (complex : IsOwnComplex F m dims set) where
   -- the owner of a place where the boundary of cell i ends
-  pub record IsSource (kept reduced : List (List (ℕ × ℕ))) (i p j : ℕ) : Type 0 where
+  pub record IsSource (chain : ℕ → Vector) (reduced : List (List (ℕ × ℕ))) (i p j : ℕ) : Type 0 where
     pub within : j < length set
     pub before : j < i
     pub same_level : dim_in dims (place_in set j) ≡ dim_in dims (place_in set i)
-    pub column : IsColumn F (column_count m) (own_entries m set) (dim_in dims) (place_in set) j (vector_at kept j) (vector_at reduced j)
+    pub column : IsColumn F (column_count m) (own_entries m set) (dim_in dims) (place_in set) j (chain j) (vector_at reduced j)
     pub ends : EndsAt (place_in set) p (vector_at reduced j)
 
-  pub source : (kept reduced : List (List (ℕ × ℕ))) (owner : List (Option ℕ)) (i p j : ℕ) (own_kept own_reduced : List (ℕ × ℕ))
-      → IsReducedSoFar F m dims set (IsDone dims set (dim_in dims (place_in set i)) i) kept reduced owner
-      → IsChainFor F m dims set i own_kept own_reduced → EndsAt (place_in set) p (coefficient own_reduced) → p < length set → owner_at owner p ≡ Some j
-      → IsSource kept reduced i p j
+  pub source : {keeps : Bool} (kept reduced : List (List (ℕ × ℕ))) (owner : List (Option ℕ)) (i p j : ℕ) (own_kept own_reduced : List (ℕ × ℕ))
+      → (so_far : IsReducedSoFar F m dims set keeps (IsDone dims set (dim_in dims (place_in set i)) i) kept reduced owner)
+      → IsChainFor F m dims set keeps i own_kept own_reduced → EndsAt (place_in set) p (coefficient own_reduced) → p < length set → owner_at owner p ≡ Some j
+      → IsSource so_far.chain reduced i p j
   source kept reduced owner i p j own_kept own_reduced so_far chains ends below is =
       let o = so_far.owns p j below is in
       let column = so_far.column j o.0 o.1 o.2 in
-      let level_j = column-level laws (column_count m) (own_entries m set) (dim_in dims) (place_in set) j (place_in set p) (vector_at kept j) (vector_at reduced j) complex.one_down column o.3.lead in
-      let level_i = column-level laws (column_count m) (own_entries m set) (dim_in dims) (place_in set) i (place_in set p) (coefficient own_kept) (coefficient own_reduced) complex.one_down chains.column ends.lead in
+      let level_j = column-level laws (column_count m) (own_entries m set) (dim_in dims) (place_in set) j (place_in set p) (so_far.chain j) (vector_at reduced j) complex.one_down column o.3.lead in
+      let level_i = column-level laws (column_count m) (own_entries m set) (dim_in dims) (place_in set) i (place_in set p) chains.chain (coefficient own_reduced) complex.one_down chains.column ends.lead in
       record {
         within = o.0;
         before = elim o.1 [ inl higher ↦ absurd (omega arith) | inr same ↦ same.1 ];
@@ -159,26 +158,30 @@ module _ {F : Arithmetic} (laws : IsField F) (m : Table) (dims set : List ℕ) (
         ends = o.3;
       }
 
-  pub chain-more : (kept reduced : List (List (ℕ × ℕ))) (i p j by : ℕ) (own_kept own_reduced new_kept new_reduced : List (ℕ × ℕ))
-      → i < length set → IsSource kept reduced i p j → IsChainFor F m dims set i own_kept own_reduced → by < F.order
+  pub chain-more : {keeps : Bool} (chain : ℕ → Vector) (kept reduced : List (List (ℕ × ℕ))) (i p j by : ℕ) (own_kept own_reduced new_kept new_reduced : List (ℕ × ℕ))
+      → i < length set → IsSource chain reduced i p j → (keeps ≡ true → (x : ℕ) → vector_at kept j x ≡ chain j x) → IsChainFor F m dims set keeps i own_kept own_reduced → by < F.order
       → ((x : ℕ) → coefficient new_kept x ≡ F.add (coefficient own_kept x) (F.mul by (vector_at kept j x))) → HasCodes F new_kept
       → ((x : ℕ) → coefficient new_reduced x ≡ F.add (coefficient own_reduced x) (F.mul by (vector_at reduced j x))) → HasCodes F new_reduced
-      → IsChainFor F m dims set i new_kept new_reduced
-  chain-more kept reduced i p j by own_kept own_reduced new_kept new_reduced below s chains by_below kept_sum kept_codes reduced_sum reduced_codes = record {
-    column = column-add laws (column_count m) (own_entries m set) (dim_in dims) (place_in set) (length set) i j by (coefficient own_kept) (coefficient own_reduced) (vector_at kept j) (vector_at reduced j)
-        (coefficient new_kept) (coefficient new_reduced) (place-distinct set complex.ascending) below s.before s.same_level by_below chains.column s.column kept_sum reduced_sum;
+      → IsChainFor F m dims set keeps i new_kept new_reduced
+  chain-more chain kept reduced i p j by own_kept own_reduced new_kept new_reduced below s is_kept chains by_below kept_sum kept_codes reduced_sum reduced_codes = record {
+    chain = λ x. F.add (chains.chain x) (F.mul by (chain j x));
+    is_kept = λ keeps x.
+        kept_sum x ∙ ap (λ (t : ℕ). F.add t (F.mul by (vector_at kept j x))) (chains.is_kept keeps x)
+        ∙ ap (λ (t : ℕ). F.add (chains.chain x) (F.mul by t)) (is_kept keeps x);
+    column = column-add laws (column_count m) (own_entries m set) (dim_in dims) (place_in set) (length set) i j by chains.chain (coefficient own_reduced) (chain j) (vector_at reduced j)
+        (λ x. F.add (chains.chain x) (F.mul by (chain j x))) (coefficient new_reduced) (place-distinct set complex.ascending) below s.before s.same_level by_below chains.column s.column (λ x. refl) reduced_sum;
     kept_codes = kept_codes;
     reduced_codes = reduced_codes;
   }
 
   -- the end goes down
-  pub end-smaller : (kept reduced : List (List (ℕ × ℕ))) (i p j by end : ℕ) (own_reduced new_reduced : List (ℕ × ℕ))
-      → IsSource kept reduced i p j → p < length set → EndsAt (place_in set) p (coefficient own_reduced)
+  pub end-smaller : (chain : ℕ → Vector) (reduced : List (List (ℕ × ℕ))) (i p j by end : ℕ) (own_reduced new_reduced : List (ℕ × ℕ))
+      → IsSource chain reduced i p j → p < length set → EndsAt (place_in set) p (coefficient own_reduced)
       → ((x : ℕ) → coefficient new_reduced x ≡ F.add (coefficient own_reduced x) (F.mul by (vector_at reduced j x)))
       → F.add (coefficient own_reduced (place_in set p)) (F.mul by (vector_at reduced j (place_in set p))) ≡ 0
       → IsEnd set new_reduced end → end < p + 1
-  end-smaller kept reduced i p j by zero own_reduced new_reduced s below ends sum cleared is_end = omega arith
-  end-smaller kept reduced i p j by (suc q) own_reduced new_reduced s below ends sum cleared is_end =
+  end-smaller chain reduced i p j by zero own_reduced new_reduced s below ends sum cleared is_end = omega arith
+  end-smaller chain reduced i p j by (suc q) own_reduced new_reduced s below ends sum cleared is_end =
       let within : suc q ≤ length set = is_end.within in
       let before : q < p =
       end-before laws (column_count m) (own_entries m set) (dim_in dims) (place_in set) (length set) p q by (coefficient own_reduced) (vector_at reduced j) (coefficient new_reduced) (place-distinct set complex.ascending)
@@ -186,19 +189,21 @@ module _ {F : Arithmetic} (laws : IsField F) (m : Table) (dims set : List ℕ) (
       omega arith
 
   -- a cell with its own boundary
-  pub chain-start : (i : ℕ) (own_kept own_reduced : List (ℕ × ℕ)) → i < length set → own_kept ≡ (place_in set i, 1) ∷ []
-      → ((x : ℕ) → coefficient own_reduced x ≡ own_entries m set x (place_in set i)) → HasCodes F own_reduced → IsChainFor F m dims set i own_kept own_reduced
-  chain-start i own_kept own_reduced below is same codes = record {
-    column = rw is (column-single laws (column_count m) (own_entries m set) (dim_in dims) (place_in set) i (coefficient own_reduced) (complex.cells i 0 below)
-        (λ x. subst (λ t. t < F.order) (same x) (coefficient-below laws own_reduced x codes)) same);
-    kept_codes = rw is (All-cons (λ (e : ℕ × ℕ). e.1 < F.order) (place_in set i, 1) [] laws.one_below (All-nil (λ (e : ℕ × ℕ). e.1 < F.order)));
+  pub chain-start : {keeps : Bool} (i : ℕ) (own_kept own_reduced : List (ℕ × ℕ)) → i < length set → (keeps ≡ true → own_kept ≡ (place_in set i, 1) ∷ []) → HasCodes F own_kept
+      → ((x : ℕ) → coefficient own_reduced x ≡ own_entries m set x (place_in set i)) → HasCodes F own_reduced → IsChainFor F m dims set keeps i own_kept own_reduced
+  chain-start i own_kept own_reduced below is kept_codes same codes = record {
+    chain = coefficient ((place_in set i, 1) ∷ []);
+    is_kept = λ keeps x. ap (λ (es : List (ℕ × ℕ)). coefficient es x) (is keeps);
+    column = column-single laws (column_count m) (own_entries m set) (dim_in dims) (place_in set) i (coefficient own_reduced) (complex.cells i 0 below)
+        (λ x. subst (λ t. t < F.order) (same x) (coefficient-below laws own_reduced x codes)) same;
+    kept_codes = kept_codes;
     reduced_codes = codes;
   }
 
   -- a boundary lies on the set
-  pub chain-listed : (i : ℕ) (own_kept own_reduced : List (ℕ × ℕ)) → IsChainFor F m dims set i own_kept own_reduced → (x : ℕ) → coefficient own_reduced x ≢ 0 → is_listed set x ≡ true
+  pub chain-listed : {keeps : Bool} (i : ℕ) (own_kept own_reduced : List (ℕ × ℕ)) → IsChainFor F m dims set keeps i own_kept own_reduced → (x : ℕ) → coefficient own_reduced x ≢ 0 → is_listed set x ≡ true
   chain-listed i own_kept own_reduced chains x some =
-      let at = image-not_zero laws (column_count m) (own_entries m set) (coefficient own_kept) x (λ none. some (chains.column.is x ∙ none)) in
+      let at = image-not_zero laws (column_count m) (own_entries m set) chains.chain x (λ none. some (chains.column.is x ∙ none)) in
       elim (cases_Bool (is_listed set x)) [
         | inl h ↦ h
         | inr h ↦ absurd (at.1.0 (ap (λ b. cond b (cond (is_listed set at.0) (entry m x at.0) 0) 0) h))

@@ -5,3 +5,4 @@ pub mod ColumnLemmas
 pub mod StateLemmas
 pub mod CollectedLemmas
 pub mod RelativeLemmas
+pub mod SingleLemmas

@@ -5,6 +5,8 @@ use Rattle.std.proofs.lemmas.Bool.{cases_Bool, cases_eq, cases_lt, true≢false}
 use Rattle.std.proofs.lemmas.List.{get_or_default}
 use Rattle.std.proofs.Math.ListN.{get_or-eq_default}
 use Rattle.conley_field.specs.Arithmetic.{Arithmetic, IsField}
+use mathlib.Core.Path.{fun_ext}
+use Rattle.conley_algebra.specs.Listing.{IsListing}
 use Rattle.conley_algebra.specs.Entries.{Entries, product_of, zero_entries, SameEntries, OnlyWhere}
 use Rattle.conley_algebra.proofs.SumLemmas as sums
 use Rattle.conley_homotopy.specs.Restriction.{IsClosedAround, own_boundary}
@@ -17,12 +19,12 @@ use Rattle.conley_faces.specs.Face.{IsCellList, IsInClosure, IsInMouth, IsLocall
 use Rattle.conley_homology.specs.Reduced.{IsFree}
 use Rattle.conley_homology.specs.Own.{is_listed, own_entries, place_in, owner_at, vector_at, IsOwnComplex, IsReducedSoFar}
 use Rattle.conley_lefschetz.specs.Listing.{dim_in}
-use Rattle.conley_lefschetz.specs.Conley.{IsRelativeCycle, IsRelativeBoundary}
+use Rattle.conley_lefschetz.specs.Conley.{IsRelativeCycle, IsRelativeBoundary, IsConleyBasis, AreConleyNumbers}
 use Rattle.conley_homology.specs.Homology.{cycle_at, IsHomology}
 use Rattle.conley_lefschetz.specs.Complex.{IsComplex, Layout, IsLayout}
 use Rattle.conley_homology.proofs.PlaceLemmas.{is_listed-place, listed_place, place-distinct}
 use Rattle.conley_homology.proofs.SplittingLemmas.{reduced-IsHomologyBasis}
-use Rattle.conley_homology.proofs.CollectedLemmas.{IsGathered, same-IsBasisModulo}
+use Rattle.conley_homology.proofs.CollectedLemmas.{AreCounted, IsGathered, same-IsBasisModulo}
 use Rattle.conley_homology.proofs.StateLemmas.{all_done}
 
 -- the complex of a set's own cells is one
@@ -114,24 +116,42 @@ module _ {F : Arithmetic} (laws : IsField F) (m : Table) (dims : List ℕ) (face
     one_down = own-one_down laws (column_count m) (entry m) (is_listed set) (IsInClosure faces set) (IsInMouth faces set) closed_around (dim_in dims) complex.one_down;
   }
 
-module _ {F : Arithmetic} (laws : IsField F) (c : Layout) (is : IsLayout F c) (set : List ℕ) (cells : IsCellList c.faces set) (closed : IsLocallyClosed c.faces set)
-    (kept reduced : List (List (ℕ × ℕ))) (owner : List (Option ℕ)) (s : IsReducedSoFar F c.boundary c.dims set (λ j. 0 ≤ dim_in c.dims (place_in set j)) kept reduced owner)
-    (numbers : List ℕ) (cycles : List (List (ℕ × ℕ)))
-    (gathered : IsGathered kept (IsFree (dim_in c.dims) (place_in set) (vector_at reduced) (owner_at owner)) (length set) c.levels numbers cycles) where
+module _ {F : Arithmetic} (laws : IsField F) (c : Layout) (is : IsLayout F c) (set : List ℕ) (cells : IsCellList c.faces set) (closed : IsLocallyClosed c.faces set) {keeps : Bool}
+    (kept reduced : List (List (ℕ × ℕ))) (owner : List (Option ℕ)) (s : IsReducedSoFar F c.boundary c.dims set keeps (λ j. 0 ≤ dim_in c.dims (place_in set j)) kept reduced owner) where
   own : IsOwnComplex F c.boundary c.dims set
   own = own_complex laws c.boundary c.dims c.faces is.complex set cells closed
 
-  pub gathered-IsHomology : IsHomology F c set numbers cycles
-  gathered-IsHomology = record {
+  -- the chains of the free cells of a dimension are a basis, whether they are kept or not
+  pub free-IsConleyBasis : (k b : ℕ) (list : ℕ → ℕ) → IsListing (length set) (IsFree (dim_in c.dims) (place_in set) (vector_at reduced) (owner_at owner) k) b list
+      → IsConleyBasis F c set k b (λ i. s.chain (list i))
+  free-IsConleyBasis k b list listing =
+      excision laws (column_count c.boundary) (entry c.boundary) (dim_in c.dims) (is_listed set) (IsInClosure c.faces set) (IsInMouth c.faces set)
+      (closed_around laws c.boundary c.dims c.faces is.complex set cells closed) k b (λ i. s.chain (list i))
+      (reduced-IsHomologyBasis laws (column_count c.boundary) (own_entries c.boundary set) (dim_in c.dims) own.squares own.one_down (length set) (place_in set) (place-distinct set cells.ascending)
+      s.chain (vector_at reduced) (owner_at owner) (all_done laws c.boundary c.dims set (λ j. 0 ≤ dim_in c.dims (place_in set j)) kept reduced owner (λ j j_below. omega arith) s)
+      (is_listed set) (is_listed-place set) (listed_place set) k b list listing)
+
+  -- so many free cells of each dimension are the Conley numbers
+  pub counted-AreConleyNumbers : (numbers : List ℕ) → AreCounted (IsFree (dim_in c.dims) (place_in set) (vector_at reduced) (owner_at owner)) (length set) c.levels numbers → AreConleyNumbers F c set numbers
+  counted-AreConleyNumbers numbers counted = record {
+    levels_count = counted.levels;
+    basis = λ k below.
+        let l = counted.counts k below in (
+          (λ i. s.chain (get_or l.0 i 0)),
+          free-IsConleyBasis k (get_or numbers k 0) (λ i. get_or l.0 i 0)
+              (subst (λ (r : ℕ). IsListing (length set) (IsFree (dim_in c.dims) (place_in set) (vector_at reduced) (owner_at owner) k) r (λ i. get_or l.0 i 0)) l.1.0 l.1.1.listing),
+        );
+  }
+
+  -- where the chains are kept, those of the free cells are the cycles
+  pub gathered-IsHomology : keeps ≡ true → (numbers : List ℕ) (cycles : List (List (ℕ × ℕ)))
+      → IsGathered kept (IsFree (dim_in c.dims) (place_in set) (vector_at reduced) (owner_at owner)) (length set) c.levels numbers cycles → IsHomology F c set numbers cycles
+  gathered-IsHomology all_kept numbers cycles gathered = record {
     levels_count = gathered.levels;
     total = gathered.total;
     basis = λ k below.
         let l = gathered.lists k below in
-        let alone = reduced-IsHomologyBasis laws (column_count c.boundary) (own_entries c.boundary set) (dim_in c.dims) own.squares own.one_down (length set) (place_in set) (place-distinct set cells.ascending)
-        (vector_at kept) (vector_at reduced) (owner_at owner) (all_done laws c.boundary c.dims set (λ j. 0 ≤ dim_in c.dims (place_in set j)) kept reduced owner (λ j j_below. omega arith) s)
-        (is_listed set) (is_listed-place set) (listed_place set) k (get_or numbers k 0) l.0 l.1.0 in
-        let whole = excision laws (column_count c.boundary) (entry c.boundary) (dim_in c.dims) (is_listed set) (IsInClosure c.faces set) (IsInMouth c.faces set)
-        (closed_around laws c.boundary c.dims c.faces is.complex set cells closed) k (get_or numbers k 0) (λ i. vector_at kept (l.0 i)) alone in
-        same-IsBasisModulo laws (λ v. IsRelativeCycle F c set v × ((x : ℕ) → v x ≢ 0 → dim_in c.dims x ≡ k)) (IsRelativeBoundary F c set) (get_or numbers k 0) (λ i. vector_at kept (l.0 i)) (cycle_at numbers cycles k)
-        (λ i i_below. ap (λ (es : List (ℕ × ℕ)). coefficient es) (sym (l.1.1 i i_below))) whole;
+        same-IsBasisModulo laws (λ v. IsRelativeCycle F c set v × ((x : ℕ) → v x ≢ 0 → dim_in c.dims x ≡ k)) (IsRelativeBoundary F c set) (get_or numbers k 0) (λ i. s.chain (l.0 i)) (cycle_at numbers cycles k)
+        (λ i i_below. fun_ext (λ x. sym (s.is_kept all_kept (l.0 i) x)) ∙ ap (λ (es : List (ℕ × ℕ)). coefficient es) (sym (l.1.1 i i_below)))
+        (free-IsConleyBasis k (get_or numbers k 0) l.0 l.1.0);
   }

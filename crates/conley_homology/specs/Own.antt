@@ -7,7 +7,7 @@
 --     IsLast es e                 e is the last entry of a chain
 --     IsOwnComplex F m dims set   the boundary on the cells of the set is that of a complex
 --     IsDone, IsEnd, IsChainFor, IsReducedSoFar   what the reduction of columns keeps
-use Rattle.std.specs.Prelude.{◌^◌, ◌≡◌, ◌≢◌, ◌⊎◌, ℕ, ◌+◌, ◌<◌, ◌≤◌, ◌==◌, Bool, List, [], All, length, slice_index_or, if◌then◌else◌, Option, Some, None}
+use Rattle.std.specs.Prelude.{◌^◌, ◌≡◌, ◌≢◌, ◌⊎◌, ℕ, ◌+◌, ◌<◌, ◌≤◌, ◌==◌, Bool, true, List, [], All, length, slice_index_or, if◌then◌else◌, Option, Some, None}
 use Rattle.std.specs.List.{list_any}
 use Rattle.std.specs.List.Sorted.{IsStrictlyIncreasing}
 use Rattle.conley_field.specs.Arithmetic.{Arithmetic}
@@ -59,21 +59,25 @@ pub record IsEnd (set : List ℕ) (chain : List (ℕ × ℕ)) (end : ℕ) : Type
   pub none : end ≡ 0 → chain ≡ []
   pub at : (p : ℕ) → end ≡ p + 1 → EndsAt (place_in set) p (coefficient chain)
 
--- chains for cell i: one that ends at the cell, and its boundary
-pub record IsChainFor (F : Arithmetic) (m : Table) (dims set : List ℕ) (i : ℕ) (kept reduced : List (ℕ × ℕ)) : Type 0 where
-  pub column : IsColumn F (column_count m) (own_entries m set) (dim_in dims) (place_in set) i (coefficient kept) (coefficient reduced)
+-- for cell i there is a chain that ends at it, which is kept where `keeps` says so, and its boundary is `reduced`
+pub record IsChainFor (F : Arithmetic) (m : Table) (dims set : List ℕ) (keeps : Bool) (i : ℕ) (kept reduced : List (ℕ × ℕ)) : Type 0 where
+  pub chain : Vector
+  pub is_kept : keeps ≡ true → (x : ℕ) → coefficient kept x ≡ chain x
+  pub column : IsColumn F (column_count m) (own_entries m set) (dim_in dims) (place_in set) i chain (coefficient reduced)
   pub kept_codes : HasCodes F kept
   pub reduced_codes : HasCodes F reduced
 
--- the cells of which done holds have columns that are reduced
-pub record IsReducedSoFar (F : Arithmetic) (m : Table) (dims set : List ℕ) (done : ℕ → Type 0) (kept reduced : List (List (ℕ × ℕ))) (owner : List (Option ℕ)) : Type 0 where
+-- the cells of which done holds have columns that are reduced, and chains, which are kept where `keeps` says so
+pub record IsReducedSoFar (F : Arithmetic) (m : Table) (dims set : List ℕ) (keeps : Bool) (done : ℕ → Type 0) (kept reduced : List (List (ℕ × ℕ))) (owner : List (Option ℕ)) : Type 0 where
   pub kept_count : length kept ≡ length set
   pub reduced_count : length reduced ≡ length set
   pub owner_count : length owner ≡ length set
   pub kept_codes : All (HasCodes F) kept
   pub reduced_codes : All (HasCodes F) reduced
+  pub chain : ℕ → Vector
+  pub is_kept : keeps ≡ true → (i x : ℕ) → vector_at kept i x ≡ chain i x
   pub column : (i : ℕ) → i < length set → done i → owner_at owner i ≡ None
-      → IsColumn F (column_count m) (own_entries m set) (dim_in dims) (place_in set) i (vector_at kept i) (vector_at reduced i)
+      → IsColumn F (column_count m) (own_entries m set) (dim_in dims) (place_in set) i (chain i) (vector_at reduced i)
   pub owns : (p i : ℕ) → p < length set → owner_at owner p ≡ Some i → (i < length set) × done i × (owner_at owner i ≡ None) × EndsAt (place_in set) p (vector_at reduced i)
   pub ends : (i : ℕ) → i < length set → done i → owner_at owner i ≡ None
       → ((p : ℕ) × ((p < length set) × (owner_at owner p ≡ Some i))) ⊎ (slice_index_or reduced i [] ≡ [])

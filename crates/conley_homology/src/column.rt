@@ -1,6 +1,6 @@
 //! One column of the boundary of a set, reduced until it ends where no other does.
 
-ghost use Rattle.std.specs.Prelude.{◌≡◌, ◌≢◌, ◌<◌, ◌≤◌, ◌+◌, [], All, IfOk, IfSome, IfNone, ℕ, length, slice_index_or, false, true};
+ghost use Rattle.std.specs.Prelude.{◌≡◌, ◌≢◌, ◌<◌, ◌≤◌, ◌+◌, [], ◌∷◌, All, IfOk, IfSome, IfNone, ℕ, length, slice_index_or, false, true};
 ghost use Rattle.std.specs.List.Sorted.{IsStrictlyIncreasing};
 ghost use Rattle.conley_chains.specs.Chain.{coefficient, HasCodes};
 ghost use Rattle.conley_chains.specs.Matrix.{entry, column_count};
@@ -54,15 +54,17 @@ fn own_column(alloc: Global, boundary: &Matrix, set: &[u32], cell: u32) -> Resul
     Ok(Chain::from_pairs(alloc, &kept)?)
 }
 
-/// The cells of a set in a complex.
+/// The cells of a set in a complex, and whether the chains are kept whose boundaries are reduced.
 #[derive(Drop)]
 pub(crate) struct Part<'a> {
     pub(crate) boundary: &'a Matrix,
     pub(crate) dims: &'a [u8],
     pub(crate) set: &'a [u32],
+    pub(crate) keeps: bool,
 }
 
 /// For each cell of a set a chain that ends there, its boundary on the set, and the cell whose boundary ends there.
+/// Where chains aren't kept the empty chain stands for each.
 #[derive(Drop)]
 pub(crate) struct Columns {
     pub(crate) kept: Vec<Chain>,
@@ -70,7 +72,7 @@ pub(crate) struct Columns {
     pub(crate) owner: Vec<Option<u32>>,
 }
 
-/// A chain, its boundary, and where that ends: one more than the place of its last cell.
+/// A chain or the empty one, the chain's boundary, and where that ends: one more than the place of its last cell.
 #[derive(Drop)]
 pub(crate) struct Column {
     pub(crate) kept: Chain,
@@ -117,6 +119,17 @@ fn multiple<F: Field>(field: &F, target: &Chain, source: &Chain, cell: u32) -> S
     field.neg(field.mul(target.entry(cell), field.inv(source.entry(cell))))
 }
 
+/// The cell alone where chains are kept, else the empty chain, to which multiples of empty chains add nothing.
+fn first_kept<F: Field>(alloc: Global, field: &F, keeps: bool, cell: u32) -> Result<Chain, NoMemory>
+    ensures kept { IfOk result (λ chain. keeps ≡ true → chain ≡ (cell, 1) ∷ []) }
+    ensures codes { IfOk result (HasCodes (F.arithmetic field.now)) }
+{
+    if !keeps {
+        return Ok(Chain::new(alloc));
+    }
+    Ok(Chain::from_pairs(alloc, &[(cell, field.one())])?)
+}
+
 /// The chain that ends at cell i of the set, with a boundary that ends where no other does.
 pub(crate) fn reduced_column<F: Field>(
     alloc: Global,
@@ -126,16 +139,16 @@ pub(crate) fn reduced_column<F: Field>(
     i: usize,
 ) -> Result<Column, NoMemory>
     requires complex { IsOwnComplex (F.arithmetic field.now) part.now.boundary.now part.now.dims.now part.now.set.now }
-    requires so_far { IsReducedSoFar (F.arithmetic field.now) part.now.boundary.now part.now.dims.now part.now.set.now
+    requires so_far { IsReducedSoFar (F.arithmetic field.now) part.now.boundary.now part.now.dims.now part.now.set.now part.now.keeps
         (IsDone part.now.dims.now part.now.set.now (dim_in part.now.dims.now (place_in part.now.set.now i)) i)
         columns.now.kept.items columns.now.reduced.items columns.now.owner.items }
     requires cell { i < length part.now.set.now }
-    ensures chains { IfOk result (λ column. IsChainFor (F.arithmetic field.now) part.now.boundary.now part.now.dims.now part.now.set.now i column.kept column.reduced) }
+    ensures chains { IfOk result (λ column. IsChainFor (F.arithmetic field.now) part.now.boundary.now part.now.dims.now part.now.set.now part.now.keeps i column.kept column.reduced) }
     ensures end { IfOk result (λ column. IsEnd part.now.set.now column.reduced column.end) }
     ensures free { IfOk result (λ column. (p : ℕ) → column.end ≡ p + 1 → owner_at columns.now.owner.items p ≡ None) }
 {
     let cell = part.set[i];
-    let mut kept = Chain::from_pairs(alloc, &[(cell, field.one())])?;
+    let mut kept = first_kept(alloc, field, part.keeps, cell)?;
     let mut reduced = own_column(alloc, part.boundary, part.set, cell)?;
     let mut end = end_of(part.set, &reduced);
     while let Some(source) = owner_of(&columns.owner, end) {

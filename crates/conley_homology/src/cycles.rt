@@ -42,6 +42,7 @@ pub fn relative<F: Field>(
         boundary: complex.boundary(),
         dims: complex.dims(),
         set,
+        keeps: true,
     };
     let columns = eliminated(alloc, complex.field(), &part, levels)?;
     let mut numbers = Vec::new(alloc);

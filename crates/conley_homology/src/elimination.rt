@@ -62,10 +62,10 @@ impl Columns {
     ) -> Result<(), NoMemory>
         requires complex { IsOwnComplex (F.arithmetic field.now) part.now.boundary.now part.now.dims.now part.now.set.now }
         requires cell { i < length part.now.set.now }
-        requires so_far { IsReducedSoFar (F.arithmetic field.now) part.now.boundary.now part.now.dims.now part.now.set.now
+        requires so_far { IsReducedSoFar (F.arithmetic field.now) part.now.boundary.now part.now.dims.now part.now.set.now part.now.keeps
             (IsDone part.now.dims.now part.now.set.now level i)
             self.old.kept.items self.old.reduced.items self.old.owner.items }
-        ensures so_far { OnOk result (IsReducedSoFar (F.arithmetic field.now) part.now.boundary.now part.now.dims.now part.now.set.now
+        ensures so_far { OnOk result (IsReducedSoFar (F.arithmetic field.now) part.now.boundary.now part.now.dims.now part.now.set.now part.now.keeps
             (IsDone part.now.dims.now part.now.set.now level (i + 1))
             self.new.kept.items self.new.reduced.items self.new.owner.items) }
     {
@@ -89,10 +89,10 @@ impl Columns {
         level: usize,
     ) -> Result<(), NoMemory>
         requires complex { IsOwnComplex (F.arithmetic field.now) part.now.boundary.now part.now.dims.now part.now.set.now }
-        requires so_far { IsReducedSoFar (F.arithmetic field.now) part.now.boundary.now part.now.dims.now part.now.set.now
+        requires so_far { IsReducedSoFar (F.arithmetic field.now) part.now.boundary.now part.now.dims.now part.now.set.now part.now.keeps
             (λ j. level + 1 ≤ dim_in part.now.dims.now (place_in part.now.set.now j))
             self.old.kept.items self.old.reduced.items self.old.owner.items }
-        ensures so_far { OnOk result (IsReducedSoFar (F.arithmetic field.now) part.now.boundary.now part.now.dims.now part.now.set.now
+        ensures so_far { OnOk result (IsReducedSoFar (F.arithmetic field.now) part.now.boundary.now part.now.dims.now part.now.set.now part.now.keeps
             (λ j. level ≤ dim_in part.now.dims.now (place_in part.now.set.now j))
             self.new.kept.items self.new.reduced.items self.new.owner.items) }
     {
@@ -112,7 +112,7 @@ pub(crate) fn eliminated<F: Field>(
 ) -> Result<Columns, NoMemory>
     requires complex { IsOwnComplex (F.arithmetic field.now) part.now.boundary.now part.now.dims.now part.now.set.now }
     requires levels { All (λ dim. dim < levels) part.now.dims.now }
-    ensures { IfOk result (λ columns. IsReducedSoFar (F.arithmetic field.now) part.now.boundary.now part.now.dims.now part.now.set.now
+    ensures { IfOk result (λ columns. IsReducedSoFar (F.arithmetic field.now) part.now.boundary.now part.now.dims.now part.now.set.now part.now.keeps
         (λ j. 0 ≤ dim_in part.now.dims.now (place_in part.now.set.now j))
         columns.kept.items columns.reduced.items columns.owner.items) }
 {

@@ -1,7 +1,7 @@
 ghost use Rattle.std.specs.Prelude.{◌≡◌, IfOk, length};
 ghost use Rattle.conley_faces.specs.Face.{IsCellList};
 
-use crate::{Homology, relative};
+use crate::{Homology, numbers, relative};
 use conley_field::{Field, PrimeField, Scalar};
 use conley_lefschetz::Complex;
 use std::alloc::Global;
@@ -49,6 +49,16 @@ fn homology_of(alloc: Global, complex: &Complex<PrimeField>, set: &[u32]) -> Res
     Ok(relative(alloc, complex, set)?)
 }
 
+/// The Conley numbers of cells that are found to be locally closed.
+fn numbers_of(alloc: Global, complex: &Complex<PrimeField>, set: &[u32]) -> Result<Vec<u32>, Fail>
+    requires { IsCellList complex.now.1.faces set.now }
+{
+    if let Some(_gap) = complex.faces().find_gap(set) {
+        return Err("a gap".into());
+    }
+    Ok(numbers(alloc, complex, set)?)
+}
+
 #[test]
 fn a_triangle_with_its_faces_is_one_piece(rt: HostRuntime) -> Result<(), Fail> {
     let complex = triangle(&rt, rt.alloc())?;
@@ -79,4 +89,27 @@ fn a_triangle_alone_is_its_own_cycle(rt: HostRuntime) -> Result<(), Fail> {
     assert_eq!(rt; cycle.len(), 1);
     assert_eq!(rt; (cycle[0].0, cycle[0].1.code()), (6, 1));
     Ok(())
+}
+
+/// That the Conley numbers of cells are these.
+fn expect_numbers(
+    rt: &impl Abort,
+    alloc: Global,
+    complex: &Complex<PrimeField>,
+    set: &[u32],
+    numbers: &[u32],
+) -> Result<(), Fail>
+    requires { IsCellList complex.now.1.faces set.now }
+{
+    let found = numbers_of(alloc, complex, set)?;
+    assert_eq!(rt; found.as_slice(), numbers);
+    Ok(())
+}
+
+#[test]
+fn numbers_alone_are_those_of_a_ring_and_a_cell(rt: HostRuntime) -> Result<(), Fail> {
+    let complex = triangle(&rt, rt.alloc())?;
+    let ring = complex.faces().mouth(rt.alloc(), &[6])?;
+    expect_numbers(&rt, rt.alloc(), &complex, &ring, &[1, 1, 0])?;
+    expect_numbers(&rt, rt.alloc(), &complex, &[6], &[0, 0, 1])
 }

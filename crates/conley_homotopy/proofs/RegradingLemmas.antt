@@ -6,7 +6,7 @@ use Rattle.conley_homotopy.specs.Equivalence.{Maps, IsGradedEquivalence}
 use Rattle.conley_homotopy.proofs.PairStepLemmas.{row_within, column_within}
 
 -- the same generators but for their bases, which have the same grades
-pub regraded : Generators → (ℕ → ℕ) → Generators
+unfoldable pub regraded : Generators → (ℕ → ℕ) → Generators
 regraded S base = record { count = S.count; base = base; dim = S.dim; boundary = S.boundary }
 
 module _ {F : Arithmetic} {below : ℕ → ℕ → Type 0} (order : IsPreorder below) (S : Generators) (base : ℕ → ℕ)

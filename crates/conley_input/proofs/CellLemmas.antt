@@ -13,6 +13,7 @@ use Rattle.conley_field.specs.Prime.{residues}
 use Rattle.conley_field.specs.declared.any.AnyField.{AnyField}
 use Rattle.conley_field.specs.declared.any.AnyField.TheVariants.{Prime}
 use Rattle.conley_chains.specs.Matrix.{entry}
+use Rattle.conley_walk.proofs.ContainsLemmas.{Contains-first, Contains-rest, Contains-cases}
 use Rattle.conley_walk.specs.Lists.{ListedStep}
 use Rattle.conley_walk.proofs.ListLemmas.{Contains-none, step_begins}
 use Rattle.conley_lefschetz.specs.Listing.{incidence_of}
@@ -47,19 +48,6 @@ dims_within file clear k d lt = elim (cases_lt 15 (get_or file.dims k d)) [
   | inl above ↦ absurd (clear.none (TooMany 4 16) (lit< tt) (inr (inr (inl (refl, refl, (k, get_or file.dims k d, lt, get_or_default file.dims k (get_or file.dims k d) d lt, above))))))
   | inr within ↦ omega arith
 ]
-
--- a list contains its first number, and those of its rest, and no others
-pub Contains-first : (x : ℕ) (w : List ℕ) → Contains (x ∷ w) x
-Contains-first x w = Contains-append_left (x ∷ []) w x (0, omega arith, refl)
-
-pub Contains-rest : (x : ℕ) (w : List ℕ) (y : ℕ) → Contains w y → Contains (x ∷ w) y
-Contains-rest x w y c = Contains-append_right (x ∷ []) w y c
-
-pub Contains-one : (x y : ℕ) → Contains (x ∷ []) y → y ≡ x
-Contains-one x y c = elim (Contains-push_cases [] x y c) [ inl d ↦ absurd (omega (arith, d.1)) | inr e ↦ sym e ]
-
-pub Contains-cases : (x : ℕ) (w : List ℕ) (y : ℕ) → Contains (x ∷ w) y → (y ≡ x) ⊎ Contains w y
-Contains-cases x w y c = elim (Contains-append_cases (x ∷ []) w y c) [ inl a ↦ inl (Contains-one x y a) | inr b ↦ inr b ]
 
 pub filter_keeps : (p : ℕ → Bool) (xs : List ℕ) (y : ℕ) → p y ≡ true → Contains xs y → Contains (filter p xs) y
 filter_keeps p [] y t c = Contains-none y c

@@ -1,4 +1,4 @@
-use crate::{Form, JsonError, member, object_member, read_json};
+use crate::{Form, JsonError, Written, member, object_member, read_json};
 use std::alloc::{AllocError, Global};
 use std::test::Fail;
 
@@ -20,6 +20,8 @@ fn whole_numbers_have_ranges(rt: HostRuntime) -> Result<(), Fail> {
     assert_eq!(rt; member_of::<u32>(alloc, b"{\"a\":4294967296}")?, None);
     assert_eq!(rt; member_of::<u32>(alloc, b"{\"a\":1.0}")?, None);
     assert_eq!(rt; member_of::<u32>(alloc, b"{\"b\":1}")?, None);
+    assert_eq!(rt; member_of::<u8>(alloc, b"{\"a\":255}")?, Some(255));
+    assert_eq!(rt; member_of::<u8>(alloc, b"{\"a\":256}")?, None);
     assert_eq!(rt;
         member_of::<i64>(alloc, b"{\"a\":-9223372036854775808}")?,
         Some(i64::MIN)
@@ -72,5 +74,17 @@ fn values_are_read_or_refused(rt: HostRuntime) -> Result<(), Fail> {
             assert_eq!(rt; object_member(&value, "c").is_some(), false);
         }
     }
+    Ok(())
+}
+
+#[test]
+fn parts_are_written(rt: HostRuntime) -> Result<(), Fail> {
+    let alloc = rt.alloc();
+    let mut triples = Vec::new(alloc);
+    triples.push((1u32, 2u32, 3u32))?;
+    let mut parts = Vec::new(alloc);
+    parts.push((String::from_str(alloc, "x")?, 7u8))?;
+    let text = (triples, parts).write(alloc)?.to_vec(alloc)?;
+    assert_eq!(rt; text.as_slice(), b"[[[1,2,3]],[[\"x\",7]]]".as_slice());
     Ok(())
 }

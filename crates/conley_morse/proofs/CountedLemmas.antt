@@ -10,7 +10,7 @@ use Rattle.conley_lefschetz.specs.Complex.{Layout}
 use Rattle.conley_lefschetz.specs.Conley.{AreConleyNumbers}
 use Rattle.conley_transitions.specs.Classes.{AreRecurrenceClasses}
 use Rattle.conley_transitions.specs.Morse.{set_at}
-use Rattle.conley_morse.specs.Decomposition.{field_of}
+use Rattle.conley_graph.specs.Decomposition.{field_of}
 use Rattle.conley_morse.specs.Making.{ClassCounts, AreCountedSoFar}
 
 pub counted_none : {F : Arithmetic} (c : Layout) (part_of : List ℕ) (lists : List (List ℕ)) → AreCountedSoFar F c part_of lists 0 [] []

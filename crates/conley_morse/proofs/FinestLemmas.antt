@@ -14,9 +14,9 @@ use Rattle.conley_transitions.specs.Field.{IsField, StepOf, AreRecurrent}
 use Rattle.conley_transitions.specs.Morse.{set_at, IsAt, AreCountingClasses, IsReachOrder}
 use Rattle.conley_transitions.proofs.FinestLemmas.{classes_are_morse, classes_are_finest}
 use Rattle.conley_morse.specs.Covers.{lower_test, HaveFirstCells}
-use Rattle.conley_morse.specs.Decomposition.{field_of, IsFinestDecomposition}
+use Rattle.conley_graph.specs.Decomposition.{field_of, IsFinestDecomposition}
 use Rattle.conley_morse.specs.Making.{ClassCounts, AreCountedSoFar}
-use Rattle.conley_morse.proofs.RegularLemmas.{counts_along}
+use Rattle.conley_graph.proofs.RegularLemmas.{counts_along}
 
 module _ {F : Arithmetic} (c : Layout) (part_of : List ℕ) (lists sets numbers : List (List ℕ)) (classes : AreRecurrenceClasses c.faces part_of lists) (counted : AreCountedSoFar F c part_of lists (length lists) sets numbers) where
   -- a set has cells, so its first is one

@@ -2,4 +2,3 @@ pub mod RegularLemmas
 pub mod CountedLemmas
 pub mod FinestLemmas
 pub mod OrderLemmas
-pub mod OnceLemmas

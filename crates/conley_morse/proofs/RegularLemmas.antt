@@ -1,4 +1,4 @@
--- A set is regular whatever the list of its cells, and which classes count
+-- Which classes count
 use Rattle.std.proofs.Common.{inl, inr, ◌⊎◌, ◌<◌, ℕ, List, length, sym, ◌∙◌, subst}
 use Rattle.std.specs.Prelude.{Contains, ◌↔◌, slice_index}
 use Rattle.std.proofs.lemmas.Bool.{cases_eq}
@@ -10,43 +10,11 @@ use Rattle.conley_lefschetz.specs.Conley.{IsRegular}
 use Rattle.conley_mvf.specs.Partition.{AreCellsOf}
 use Rattle.conley_transitions.specs.Step.{Step}
 use Rattle.conley_transitions.specs.Classes.{AreRecurrenceClasses}
-use Rattle.conley_transitions.specs.Field.{Field, IsCell, StepOf, AreRecurrent, Counts}
+use Rattle.conley_transitions.specs.Field.{StepOf, Counts}
 use Rattle.conley_transitions.specs.Morse.{set_at}
-use Rattle.conley_transitions.proofs.EssentialLemmas.{recurrent_back, recurrent_on}
-use Rattle.conley_morse.specs.Decomposition.{field_of}
+use Rattle.conley_graph.specs.Decomposition.{field_of}
+use Rattle.conley_graph.proofs.RegularLemmas.{regular_same, counts_along}
 use Rattle.conley_morse.specs.Making.{LiesInOnePart, HasTwoParts, ClassCounts}
-
--- lists of the same cells are regular together
-pub regular_same : {F : Arithmetic} (c : Layout) (a b : List ℕ) → ((x : ℕ) → Contains a x ↔ Contains b x) → IsRegular F c a → IsRegular F c b
-regular_same c a b same regular chain cycle =
-    let found = regular chain (record {
-      chain = record { codes = cycle.chain.codes; only = λ x h. let up = cycle.chain.only x h in (up.0, (same up.0).1 up.1, up.2) };
-      on_mouth = record {
-        codes = cycle.on_mouth.codes;
-        only = λ x h. let up = cycle.on_mouth.only x h in ((up.0.0, (same up.0.0).1 up.0.1, up.0.2), (λ inside. up.1 ((same x).0 inside)));
-      };
-    }) in
-    record {
-      of = found.of;
-      of_chain = record { codes = found.of_chain.codes; only = λ x h. let up = found.of_chain.only x h in (up.0, (same up.0).0 up.1, up.2) };
-      part = found.part;
-      part_chain = record {
-        codes = found.part_chain.codes;
-        only = λ x h. let up = found.part_chain.only x h in ((up.0.0, (same up.0.0).0 up.0.1, up.0.2), (λ inside. up.1 ((same x).1 inside)));
-      };
-      is = found.is;
-    }
-
--- a class counts at each of its cells, if at one
-pub counts_along : (field : Field) (x y : ℕ) → IsCell field x → IsCell field y → AreRecurrent (StepOf field) x y → Counts (StepOf field) field x → Counts (StepOf field) field y
-counts_along field x y cx cy r (inl two) = elim (cases_eq (slice_index field.part_of x) (slice_index field.part_of y)) [
-  | inl e ↦ inl (two.0, recurrent_on (StepOf field) field y x two.0 (recurrent_back (StepOf field) field x y r) two.1, (λ s. two.2 (cx, (s.1.0, s.1.1 ∙ sym e))))
-  | inr ne ↦ inl (x, recurrent_back (StepOf field) field x y r, (λ s. ne s.1.1))
-]
-counts_along field x y cx cy r (inr irregular) = elim (cases_eq (slice_index field.part_of x) (slice_index field.part_of y)) [
-  | inl e ↦ inr (λ regular. irregular (subst field.regular (sym e) regular))
-  | inr ne ↦ inl (x, recurrent_back (StepOf field) field x y r, (λ s. ne s.1.1))
-]
 
 module _ (c : Layout) (part_of : List ℕ) (lists : List (List ℕ)) (classes : AreRecurrenceClasses c.faces part_of lists) (k : ℕ) (below : k < length lists) where
   has_first : Contains (set_at lists k) (slice_index (set_at lists k) 0)

@@ -1,3 +1,2 @@
-pub mod Decomposition
 pub mod Making
 pub mod Covers

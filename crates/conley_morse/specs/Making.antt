@@ -9,7 +9,7 @@ use Rattle.conley_lefschetz.specs.Complex.{Layout}
 use Rattle.conley_lefschetz.specs.Conley.{AreConleyNumbers}
 use Rattle.conley_transitions.specs.Field.{Field, StepOf, Counts}
 use Rattle.conley_transitions.specs.Morse.{set_at}
-use Rattle.conley_morse.specs.Decomposition.{field_of}
+use Rattle.conley_graph.specs.Decomposition.{field_of}
 
 abbrev pub LiesInOnePart : List ℕ → List ℕ → Type 0
 LiesInOnePart part_of class = (x : ℕ) → Contains class x → slice_index part_of x ≡ slice_index part_of (slice_index class 0)

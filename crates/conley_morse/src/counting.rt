@@ -6,12 +6,12 @@ ghost use Rattle.conley_faces.specs.Face.{IsCellList, IsLocallyClosed};
 ghost use Rattle.conley_lefschetz.specs.Conley.{IsRegular, AreConleyNumbers};
 ghost use Rattle.conley_transitions.specs.Classes.{AreRecurrenceClasses};
 ghost use Rattle.conley_transitions.specs.Field.{IsField};
-ghost use Rattle.conley_morse.specs.Decomposition.{field_of};
+ghost use Rattle.conley_graph.specs.Decomposition.{field_of};
 ghost use Rattle.conley_morse.specs.Making.{LiesInOnePart, HasTwoParts, AreCountedSoFar};
 
 use crate::NoMemory;
 use conley_field::Field;
-use conley_homology::{Homology, relative};
+use conley_homology::numbers;
 use conley_lefschetz::Complex;
 use conley_mvf::Partition;
 use std::alloc::Global;
@@ -54,10 +54,7 @@ fn numbers_where_counted<F: Field>(
     ensures counted { IfOk result (λ answer. IfSome answer (λ numbers. HasTwoParts partition.now class.now ⊎ (LiesInOnePart partition.now class.now × ¬ IsRegular (F.arithmetic complex.now.0) complex.now.1 class.now))) }
     ensures passed { IfOk result (λ answer. IfNone answer (LiesInOnePart partition.now class.now × IsRegular (F.arithmetic complex.now.0) complex.now.1 class.now)) }
 {
-    let Homology {
-        numbers,
-        cycles: _cycles,
-    } = relative(alloc, complex, class)?;
+    let numbers = numbers(alloc, complex, class)?;
     if !lies_in_one_part(partition, class) {
         return Ok(Some(numbers));
     }

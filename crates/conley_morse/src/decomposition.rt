@@ -6,7 +6,7 @@ ghost use Rattle.conley_walk.specs.Lists.{items_of};
 ghost use Rattle.conley_mvf.specs.Partition.{IsMultivectorField};
 ghost use Rattle.conley_order.specs.ClassRows.{is_at_or_below};
 ghost use Rattle.conley_transitions.specs.Step.{Step};
-ghost use Rattle.conley_morse.specs.Decomposition.{IsConleyMorseGraph, HasTooManySets};
+ghost use Rattle.conley_graph.specs.Decomposition.{IsConleyMorseGraph, HasTooManySets};
 
 use crate::MorseError;
 use crate::counting::counted;

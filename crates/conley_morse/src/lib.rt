@@ -6,12 +6,10 @@
 mod counting;
 mod decomposition;
 mod error;
-mod laws;
 mod order;
 
 pub use decomposition::{Decomposition, morse};
 pub use error::MorseError;
-pub use laws::finest_decomposition_is_one;
 
 /// Want of memory.
 pub type NoMemory = std::alloc::AllocError;

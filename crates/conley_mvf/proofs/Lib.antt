@@ -1,3 +1,4 @@
+pub mod LabelLemmas
 pub mod MarkLemmas
 pub mod GapLemmas
 pub mod FirstsLemmas

@@ -9,9 +9,11 @@
 --     PutsFirst old new list         the numbers of the list have its first number, all others what they had
 --     TellsFirst lists n cells least    a cell of one of the first n lists has the first cell of such a list, any other has itself
 --     AreLeast least                 a cell that is had by another is no later and has itself
+--     FirstsSoFar labels n first least   for each label the first of the first n cells that has it, and for each of these the first with its label
+--     TellsFirstByLabel labels least     for each cell the first cell that has its label
 --     NumbersSoFar least n part_of next   parts of the first n cells: cells of one part are those that have one cell
 --     IsPartitionTable part_of cells what a value of `Partition` keeps
-use Rattle.std.specs.Prelude.{◌≡◌, ◌⊎◌, ◌↔◌, ◌<◌, ◌≤◌, ℕ, List, [], ◌∷◌, Bool, Option, Some, None, Contains, length, slice_index, slice_index_or}
+use Rattle.std.specs.Prelude.{◌≡◌, ◌≢◌, ◌⊎◌, ◌↔◌, ◌<◌, ◌≤◌, ℕ, List, [], ◌∷◌, Bool, Option, Some, None, Contains, length, slice_index, slice_index_or}
 use Rattle.conley_first.specs.First.{Precedes}
 use Rattle.conley_walk.specs.Lists.{IsMarked, ListedStep}
 use Rattle.conley_walk.specs.Gathered.{AreGathered}
@@ -60,6 +62,19 @@ pub record TellsFirst (lists : List (List ℕ)) (n cells : ℕ) (least : List �
 pub record AreLeast (least : List ℕ) : Type 0 where
   pub low : (x : ℕ) → x < length least → slice_index least x ≤ x
   pub fixed : (x : ℕ) → x < length least → slice_index least (slice_index least x) ≡ slice_index least x
+
+pub record FirstsSoFar (labels : List ℕ) (n : ℕ) (first least : List ℕ) : Type 0 where
+  pub count : length least ≡ n
+  pub width : length first ≡ length labels
+  pub firsts : (p : ℕ) → p < length labels →
+      ((slice_index first p ≡ length labels) × ((y : ℕ) → y < n → slice_index labels y ≢ p))
+      ⊎ ((slice_index first p < n) × (slice_index labels (slice_index first p) ≡ p) × ((y : ℕ) → y < n → slice_index labels y ≡ p → slice_index first p ≤ y))
+  pub told : (y : ℕ) → y < n → slice_index least y ≡ slice_index first (slice_index labels y)
+
+pub record TellsFirstByLabel (labels least : List ℕ) : Type 0 where
+  pub count : length least ≡ length labels
+  pub are_least : AreLeast least
+  pub same : (x y : ℕ) → x < length labels → y < length labels → (slice_index least x ≡ slice_index least y) ↔ (slice_index labels x ≡ slice_index labels y)
 
 pub record NumbersSoFar (least : List ℕ) (n : ℕ) (part_of : List ℕ) (next : ℕ) : Type 0 where
   pub count : length part_of ≡ n

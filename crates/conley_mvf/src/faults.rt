@@ -22,7 +22,7 @@ fn unknown_in(list: &[u32], n: usize) -> Option<usize>
 }
 
 /// The first list and place with a number that isn't below n.
-pub(crate) fn first_unknown(lists: &[Vec<u32>], n: usize) -> Option<(usize, usize)>
+pub fn first_unknown(lists: &[Vec<u32>], n: usize) -> Option<(usize, usize)>
     ensures { FindsFirst (IsUnknown n (items_of lists.now)) result }
 {
     for (k, list) in lists.iter().enumerate() {

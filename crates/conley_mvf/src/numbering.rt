@@ -2,7 +2,7 @@
 
 ghost use Rattle.std.specs.Prelude.{◌≡◌, ◌<◌, ◌^◌, ℕ, All, IfOk, length, slice_index};
 ghost use Rattle.conley_walk.specs.Lists.{items_of, ListedStep};
-ghost use Rattle.conley_mvf.specs.Making.{PutsFirst, TellsFirst, AreLeast, NumbersSoFar};
+ghost use Rattle.conley_mvf.specs.Making.{PutsFirst, TellsFirst, AreLeast, TellsFirstByLabel, NumbersSoFar};
 
 use std::alloc::{AllocError, Global};
 
@@ -32,6 +32,25 @@ pub(crate) fn firsts_of(
     }
     for list in lists {
         put_first(&mut least, list);
+    }
+    Ok(least)
+}
+
+/// For each cell the first cell that has its label.
+pub(crate) fn firsts_by_label(alloc: Global, labels: &[u32]) -> Result<Vec<u32>, AllocError>
+    requires count { length labels.now < 2 ^ 32 }
+    requires labels { All (λ p. p < length labels.now) labels.now }
+    ensures { IfOk result (λ least. TellsFirstByLabel labels.now least.items) }
+{
+    let none = labels.len() as u32;
+    let mut first = vec![in alloc; none; labels.len()]?;
+    let mut least = Vec::new(alloc);
+    for x in 0..none {
+        let label = labels[x as usize] as usize;
+        if first[label] == none {
+            first[label] = x;
+        }
+        least.push(first[label])?;
     }
     Ok(least)
 }

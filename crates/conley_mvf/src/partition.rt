@@ -1,14 +1,14 @@
 //! Partitions.
 
-ghost use Rattle.std.specs.Prelude.{◌≡◌, ◌≢◌, ◌<◌, ◌≤◌, ◌^◌, ◌↔◌, ℕ, OnOk, IfOk, IsErrOf, Contains, length, slice_index};
+ghost use Rattle.std.specs.Prelude.{◌≡◌, ◌≢◌, ◌<◌, ◌≤◌, ◌^◌, ◌↔◌, ℕ, All, OnOk, IfOk, IsErrOf, Contains, length, slice_index};
 ghost use Rattle.std.specs.List.Sorted.{IsStrictlyIncreasing};
 ghost use Rattle.conley_walk.specs.Lists.{items_of, entries_of};
-ghost use Rattle.conley_mvf.specs.Partition.{IsInPart, IsPartNumber, IsPartition, IsMultivectorField, IsWhole};
+ghost use Rattle.conley_mvf.specs.Partition.{IsInPart, IsPartNumber, IsPartition, IsMultivectorField, HaveNoGap, HaveSameParts, IsWhole};
 ghost use Rattle.conley_mvf.specs.Fault.{Fails, IsFirstFault};
 
-use crate::PartError;
+use crate::{NoMemory, PartError};
 use crate::faults::{first_empty, first_gap, first_repeat, first_unknown};
-use crate::numbering::{firsts_of, numbers_of};
+use crate::numbering::{firsts_by_label, firsts_of, numbers_of};
 use conley_faces::Faces;
 use conley_walk::{all_ordered, gathered};
 use std::alloc::Global;
@@ -59,6 +59,21 @@ impl Partition {
             return Err(PartError::Gap(k as u32, x, y, z));
         }
         let least = firsts_of(alloc, count, &lists)?;
+        let part_of = numbers_of(alloc, &least)?;
+        let cells = gathered(alloc, &part_of)?;
+        Ok(Partition { part_of, cells })
+    }
+
+    /// The partition whose parts are the cells with one label. The labels are numbers of cells.
+    pub fn labelled(alloc: Global, faces: &Faces, labels: &[u32]) -> Result<Partition, NoMemory>
+        requires count { length labels.now ≡ length faces.now }
+        requires labels { All (λ p. p < length labels.now) labels.now }
+        requires closed { HaveNoGap faces.now labels.now }
+        ensures parts { IfOk result (HaveSameParts labels.now) }
+        ensures closed { IfOk result (IsMultivectorField faces.now) }
+    {
+        let _cells = faces.count();
+        let least = firsts_by_label(alloc, labels)?;
         let part_of = numbers_of(alloc, &least)?;
         let cells = gathered(alloc, &part_of)?;
         Ok(Partition { part_of, cells })

@@ -5,10 +5,12 @@
 #![tactic(auto)]
 
 mod grading;
+mod lower;
 mod reach_rows;
 mod words;
 
 pub use grading::{Grading, same};
+pub use lower::{is_next, lower_rows, lower_still};
 pub use reach_rows::ReachRows;
 pub use words::words_of;
 

@@ -8,9 +8,9 @@ use Rattle.conley_lefschetz.specs.Conley.{AreConleyNumbers}
 use Rattle.conley_lefschetz.proofs.ConleyLemmas.{numbers_are_one}
 use Rattle.conley_transitions.specs.Morse.{set_at}
 use Rattle.conley_transitions.proofs.ClassLemmas.{classes_once}
-use Rattle.conley_morse.specs.Covers.{AreCovers}
-use Rattle.conley_morse.specs.Decomposition.{field_of}
-use Rattle.conley_morse.proofs.OnceLemmas.{finest_once, covers_once, numbers_once}
+use Rattle.conley_graph.specs.Covers.{AreCovers}
+use Rattle.conley_graph.specs.Decomposition.{field_of}
+use Rattle.conley_graph.proofs.OnceLemmas.{finest_once, covers_once, numbers_once}
 use Rattle.conley_input.specs.Problem.{Problem}
 use Rattle.conley_input.proofs.OnceLemmas.{refused_once, not_refused_and_read, read_once, read_prime}
 use Rattle.conley_tool.specs.Texts.{class_line}

@@ -10,7 +10,7 @@
 use Rattle.std.specs.Prelude.{◌≡◌, ◌⊎◌, ◌≤◌, ℕ, List, length, Option, Some, None, nat_lt, if◌then◌else◌}
 use Rattle.conley_outside.specs.Depot.{Files}
 use Rattle.conley_field.specs.Prime.{residues}
-use Rattle.conley_morse.specs.Decomposition.{HasTooManySets}
+use Rattle.conley_graph.specs.Decomposition.{HasTooManySets}
 use Rattle.conley_input.specs.Problem.{Problem, Reads, Refuses}
 use Rattle.conley_input.specs.declared.error.FileFault.{FileFault}
 use Rattle.conley_tool.specs.Words.{Command, on_file}

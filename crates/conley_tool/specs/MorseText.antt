@@ -8,7 +8,7 @@ use Rattle.std.specs.Prelude.{ℕ, List, [], ◌∷◌, ◌++◌, map, flat_map,
 use Rattle.std.specs.List.{range_with_len}
 use Rattle.conley_field.specs.Prime.{residues}
 use Rattle.conley_transitions.specs.Morse.{set_at}
-use Rattle.conley_morse.specs.Decomposition.{IsConleyMorseGraph}
+use Rattle.conley_graph.specs.Decomposition.{IsConleyMorseGraph}
 use Rattle.conley_input.specs.Problem.{Problem}
 use Rattle.conley_tool.specs.Texts.{line, labels_of}
 

@@ -7,7 +7,8 @@ use Rattle.conley_walk.specs.Walk.{Walk}
 use Rattle.conley_walk.proofs.WalkLemmas.{Walk-append, reaches_itself, reaches_on}
 use Rattle.conley_transitions.specs.Field.{Field, IsCell, IsInPart, ShareAPart, IsCalledRegular, AreRecurrent, Counts}
 use Rattle.conley_transitions.specs.Lasso.{IsEssential}
-use Rattle.conley_transitions.proofs.WalkCellLemmas.{Contains-first, Contains-rest, Contains-cases, Contains-longer, append_empty, Contains-one, closed_walk_passes, walk_contains_last}
+use Rattle.conley_walk.proofs.ContainsLemmas.{Contains-first, Contains-rest, Contains-cases, Contains-one}
+use Rattle.conley_transitions.proofs.WalkCellLemmas.{Contains-longer, append_empty, closed_walk_passes, walk_contains_last}
 
 module _ (R : ℕ → ℕ → Type 0) (field : Field) where
   pub recurrent_itself : (x : ℕ) → AreRecurrent R x x

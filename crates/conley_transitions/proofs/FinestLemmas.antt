@@ -10,7 +10,8 @@ use Rattle.conley_faces.proofs.FaceLemmas.{face_itself, face_ends}
 use Rattle.conley_transitions.specs.Field.{Field, IsField, IsCell, StepOf, AreRecurrent, Counts}
 use Rattle.conley_transitions.specs.Lasso.{LieIn, IsEssential, Lasso, alpha_cells, omega_cells, lasso_cells, IsIsolatedInvariant}
 use Rattle.conley_transitions.specs.Morse.{set_at, IsAt, IsStrictOrder, Descends, IsMorse, IsFinest, AreCountingClasses, SetReaches, IsReachOrder}
-use Rattle.conley_transitions.proofs.WalkCellLemmas.{Contains-first, Contains-rest, Contains-cases, Contains-longer, Contains-one, walk_passes, walk_contains_last}
+use Rattle.conley_walk.proofs.ContainsLemmas.{Contains-first, Contains-rest, Contains-cases, Contains-one}
+use Rattle.conley_transitions.proofs.WalkCellLemmas.{Contains-longer, walk_passes, walk_contains_last}
 use Rattle.conley_transitions.proofs.EssentialLemmas.{closed_walk_recurrent, IsEssential-append, essential_from_Counts, Counts-from_essential}
 
 -- the numbers below n

@@ -7,7 +7,8 @@ use Rattle.conley_walk.proofs.WalkLemmas.{Walk-append, reaches_on}
 use Rattle.conley_transitions.specs.Field.{Field, IsCell, StepOf, Counts}
 use Rattle.conley_transitions.specs.Lasso.{LieIn, IsEssential, Lasso, alpha_cells, omega_cells, IsInInvariantPart}
 use Rattle.conley_transitions.specs.Invariant.{StepIn, IsEssentialIn}
-use Rattle.conley_transitions.proofs.WalkCellLemmas.{Contains-first, Contains-rest, Contains-cases, Contains-one, Contains-longer, walk_passes, walk_contains_last}
+use Rattle.conley_walk.proofs.ContainsLemmas.{Contains-first, Contains-rest, Contains-cases, Contains-one}
+use Rattle.conley_transitions.proofs.WalkCellLemmas.{Contains-longer, walk_passes, walk_contains_last}
 use Rattle.conley_transitions.proofs.FinestLemmas.{alpha_in_lasso, omega_in_lasso}
 use Rattle.conley_transitions.proofs.EssentialLemmas.{Counts-from_essential, essential_from_Counts}
 

@@ -8,7 +8,7 @@ use Rattle.conley_faces.proofs.GapLemmas.{contains_cases}
 use Rattle.conley_transitions.specs.Field.{Field, IsField, IsCell, ShareAPart, StepOf}
 use Rattle.conley_transitions.specs.Lasso.{LieIn, Isolates}
 use Rattle.conley_transitions.specs.Isolation.{IsUnionOfParts, HasIsolatingSet}
-use Rattle.conley_transitions.proofs.WalkCellLemmas.{Contains-first, Contains-rest, Contains-cases, Contains-one}
+use Rattle.conley_walk.proofs.ContainsLemmas.{Contains-first, Contains-rest, Contains-cases, Contains-one}
 use Rattle.conley_transitions.proofs.FinestLemmas.{face_cell}
 
 module _ (field : Field) (ok : IsField field) (set : List ℕ) (cells : (x : ℕ) → Contains set x → IsCell field x) where

@@ -3,21 +3,8 @@ use Rattle.std.proofs.Common.{◌≡◌, ◌⊎◌, inl, inr, ℕ, List, [], ◌
 use Rattle.std.specs.Prelude.{Contains}
 use Rattle.std.proofs.lemmas.List.Elements.{Contains-push_cases, Contains-append_cases, Contains-append_left, Contains-append_right}
 use Rattle.conley_walk.specs.Walk.{Walk, Reaches}
+use Rattle.conley_walk.proofs.ContainsLemmas.{Contains-first, Contains-rest, Contains-one, Contains-cases}
 use Rattle.conley_walk.proofs.WalkLemmas.{reaches_itself, reaches_on, reaches_by_step}
-
--- a list contains its first number, and those of its rest
-pub Contains-first : (x : ℕ) (w : List ℕ) → Contains (x ∷ w) x
-Contains-first x w = Contains-append_left (x ∷ []) w x (0, omega arith, refl)
-
-pub Contains-rest : (x : ℕ) (w : List ℕ) (y : ℕ) → Contains w y → Contains (x ∷ w) y
-Contains-rest x w y c = Contains-append_right (x ∷ []) w y c
-
--- and no others
-pub Contains-one : (x y : ℕ) → Contains (x ∷ []) y → y ≡ x
-Contains-one x y c = elim (Contains-push_cases [] x y c) [ inl d ↦ absurd (omega (arith, d.1)) | inr e ↦ sym e ]
-
-pub Contains-cases : (x : ℕ) (w : List ℕ) (y : ℕ) → Contains (x ∷ w) y → (y ≡ x) ⊎ Contains w y
-Contains-cases x w y c = elim (Contains-append_cases (x ∷ []) w y c) [ inl a ↦ inl (Contains-one x y a) | inr b ↦ inr b ]
 
 -- the first cell of a walk reaches each of its cells, and each reaches the last
 pub walk_passes : (Step : ℕ → ℕ → Type 0) (x : ℕ) (w : List ℕ) (y c : ℕ) → Walk Step x w y → Contains (x ∷ w) c → Reaches Step x c × Reaches Step c y

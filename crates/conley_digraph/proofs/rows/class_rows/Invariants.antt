@@ -1,6 +1,11 @@
+use Rattle.std.proofs.Common.{◌≡◌, length}
 use Rattle.conley_walk.specs.Lists.{items_of}
-use Rattle.conley_digraph.specs.Rows.{AreRowsOf}
+use Rattle.conley_digraph.specs.Rows.{AreRowsSoFar}
 use Rattle.conley_digraph.proofs.rows.class_rows.Given as goal
 
-abbrev pub invariant-loop-node : goal.invariant-loop-node
-invariant-loop-node l = AreRowsOf (items_of l.steps) l.nodes l.node-index (items_of l.rows.items)
+-- the classes so far have their rows
+abbrev pub invariant-loop-x : goal.invariant-loop-x
+invariant-loop-x l = record {
+  count : length l.rows.items ≡ length l.members.items;
+  so_far : AreRowsSoFar (items_of l.steps) l.class_of l.order l.x-index (items_of l.rows.items);
+}

@@ -1,4 +1,4 @@
-use Rattle.std.proofs.Common.{arith, ◌≡◌, ◌<◌, ◌+◌, ◌-◌, ◌∙◌, ap, sym, ℕ, List, [], ◌∷◌, length, get_or, Option, Some}
+use Rattle.std.proofs.Common.{arith, ◌≡◌, ◌<◌, ◌+◌, ◌-◌, ◌∙◌, ap, sym, ℕ, List, [], length, get_or, Option, Some}
 use Rattle.conley_chains.specs.Chain.{coefficient, HasCodes}
 use Rattle.conley_homology.specs.Own.{place_in, owner_at, IsChainFor}
 use Rattle.conley_homology.proofs.ColumnLemmas.{chain-start, chain-more, chain_read, end-smaller, source, IsSource, chain-listed}
@@ -16,7 +16,7 @@ below : (g : Over) (c : In-Some g) → (place g c).0 < length c.args.part.now.se
 below g c = omega (arith, (place g c).1.0, c.loop-source.invariant.1.within)
 
 source_of : (g : Over) (c : In-Some g) → IsSource (g.met.F.Field.is_field c.args.field.now) c.args.part.now.boundary.now c.args.part.now.dims.now c.args.part.now.set.now c.requires.complex
-    c.args.columns.now.kept.items c.args.columns.now.reduced.items c.args.i (place g c).0 c.in-Some.source
+    c.requires.so_far.chain c.args.columns.now.reduced.items c.args.i (place g c).0 c.in-Some.source
 source_of g c =
     source (g.met.F.Field.is_field c.args.field.now) c.args.part.now.boundary.now c.args.part.now.dims.now c.args.part.now.set.now c.requires.complex
     c.args.columns.now.kept.items c.args.columns.now.reduced.items c.args.columns.now.owner.items c.args.i (place g c).0 c.in-Some.source c.loop-source.kept c.loop-source.reduced
@@ -25,7 +25,7 @@ source_of g c =
 pub loop-source-init : goal.loop-source-init
 loop-source-init g c = (
   chain-start (g.met.F.Field.is_field c.args.field.now) c.args.part.now.boundary.now c.args.part.now.dims.now c.args.part.now.set.now c.requires.complex c.args.i c.in_ok-kept.kept c.in_ok-reduced.reduced
-      c.requires.cell (c.in_ok-kept.ensures ∙ ap (λ (a : ℕ). (get_or c.args.part.now.set.now c.args.i 0, a) ∷ []) c.one.ensures) c.in_ok-reduced.ensures.own
+      c.requires.cell c.in_ok-kept.ensures.kept c.in_ok-kept.ensures.codes c.in_ok-reduced.ensures.own
       (c.in_ok-reduced.ensures.codes (g.F.Field.arithmetic c.args.field.now).order (c.requires.complex.codes (get_or c.args.part.now.set.now c.args.i 0) [] (c.requires.complex.cells c.args.i 0 c.requires.cell))),
   c.end_of-end.ensures,
 )
@@ -61,11 +61,11 @@ more : (g : Over) (c : In-Some g) (by : ℕ) (reduced kept new_reduced new_kept 
     → HasCodes (g.F.Field.arithmetic c.args.field.now) new_kept
     → ((x : ℕ) → coefficient new_reduced x ≡ (g.F.Field.arithmetic c.args.field.now).add (coefficient c.loop-source.reduced x) ((g.F.Field.arithmetic c.args.field.now).mul by (coefficient reduced x)))
     → HasCodes (g.F.Field.arithmetic c.args.field.now) new_reduced
-    → IsChainFor (g.F.Field.arithmetic c.args.field.now) c.args.part.now.boundary.now c.args.part.now.dims.now c.args.part.now.set.now c.args.i new_kept new_reduced
+    → IsChainFor (g.F.Field.arithmetic c.args.field.now) c.args.part.now.boundary.now c.args.part.now.dims.now c.args.part.now.set.now c.args.part.now.keeps c.args.i new_kept new_reduced
 more g c by reduced kept new_reduced new_kept read_reduced read_kept by_below kept_sum kept_codes reduced_sum reduced_codes =
     chain-more (g.met.F.Field.is_field c.args.field.now) c.args.part.now.boundary.now c.args.part.now.dims.now c.args.part.now.set.now c.requires.complex
-    c.args.columns.now.kept.items c.args.columns.now.reduced.items c.args.i (place g c).0 c.in-Some.source by c.loop-source.kept c.loop-source.reduced new_kept new_reduced
-    c.requires.cell (source_of g c) c.loop-source.invariant.0 by_below
+    c.requires.so_far.chain c.args.columns.now.kept.items c.args.columns.now.reduced.items c.args.i (place g c).0 c.in-Some.source by c.loop-source.kept c.loop-source.reduced new_kept new_reduced
+    c.requires.cell (source_of g c) (λ keeps. c.requires.so_far.is_kept keeps c.in-Some.source) c.loop-source.invariant.0 by_below
     (λ x. kept_sum x ∙ ap (λ (es : List (ℕ × ℕ)). (g.F.Field.arithmetic c.args.field.now).add (coefficient c.loop-source.kept x) ((g.F.Field.arithmetic c.args.field.now).mul by (coefficient es x))) (kept_read g c kept read_kept))
     kept_codes
     (λ x. reduced_sum x ∙ ap (λ (es : List (ℕ × ℕ)). (g.F.Field.arithmetic c.args.field.now).add (coefficient c.loop-source.reduced x) ((g.F.Field.arithmetic c.args.field.now).mul by (coefficient es x))) (reduced_read g c reduced read_reduced))
@@ -103,7 +103,7 @@ loop-source-smaller g c =
     let p = (place g w).0 in
     let less =
     end-smaller (g.met.F.Field.is_field c.args.field.now) c.args.part.now.boundary.now c.args.part.now.dims.now c.args.part.now.set.now c.requires.complex
-    c.args.columns.now.kept.items c.args.columns.now.reduced.items c.args.i p c.in-Some.source c.multiple-by.result c.end_of-end-in-Some.result c.loop-source.reduced c.in_ok-reduced-2.reduced
+    c.requires.so_far.chain c.args.columns.now.reduced.items c.args.i p c.in-Some.source c.multiple-by.result c.end_of-end-in-Some.result c.loop-source.reduced c.in_ok-reduced-2.reduced
     (source_of g w) (below g w) (c.loop-source.invariant.1.at p (place g w).1.0)
     (λ x. c.in_ok-reduced-2.ensures.sum x ∙ ap (λ (es : List (ℕ × ℕ)). F.add (coefficient c.loop-source.reduced x) (F.mul c.multiple-by.result (coefficient es x))) (reduced_read g w c.index-other.result.now c.index-other.ensures))
     (ap (λ (es : List (ℕ × ℕ)). F.add (coefficient c.loop-source.reduced (place_in c.args.part.now.set.now p)) (F.mul c.multiple-by.result (coefficient es (place_in c.args.part.now.set.now p)))) (sym (reduced_read g w c.index-other.result.now c.index-other.ensures))

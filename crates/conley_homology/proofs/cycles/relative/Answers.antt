@@ -1,4 +1,4 @@
-use Rattle.std.proofs.Common.{arith, ◌≡◌, ℕ, List, length, get_or, subst}
+use Rattle.std.proofs.Common.{arith, ◌≡◌, ℕ, List, length, get_or, subst, refl}
 use Rattle.conley_lefschetz.specs.Listing.{dim_in}
 use Rattle.conley_lefschetz.proofs.ConleyLemmas.{one_length, regular_where_zero}
 use Rattle.conley_homology.specs.Reduced.{IsFree}
@@ -34,7 +34,7 @@ returns-clause-cycles g c =
     let gathered = subst (λ (dims : List ℕ). IsGathered kept (IsFree (dim_in dims) (place_in c.args.set.now) (vector_at reduced) (owner_at owner)) (length c.args.set.now) c.args.complex.now.1.levels c.loop-level.numbers.items c.loop-level.cycles.items) c.dims.ensures.dims
     (subst (λ (n : ℕ). IsGathered kept (IsFree (dim_in c.dims.result.now) (place_in c.args.set.now) (vector_at reduced) (owner_at owner)) (length c.args.set.now) n c.loop-level.numbers.items c.loop-level.cycles.items) all c.loop-level.invariant) in
     gathered-IsHomology (g.met.F.Field.is_field c.args.complex.now.0) c.args.complex.now.1 c.dims.ensures.laws c.args.set.now c.requires.cells c.requires.closed kept reduced owner
-    (rw (c.field.ensures.field, c.boundary.ensures.boundary, c.dims.ensures.dims) at c.in_ok-columns.ensures) c.loop-level.numbers.items c.loop-level.cycles.items gathered
+    (rw (c.field.ensures.field, c.boundary.ensures.boundary, c.dims.ensures.dims) at c.in_ok-columns.ensures) refl c.loop-level.numbers.items c.loop-level.cycles.items gathered
 
 pub returns-clause-numbers : goal.returns-clause-numbers
 returns-clause-numbers g c =

@@ -5,7 +5,7 @@ use Rattle.std.proofs.lemmas.Iterator.Adapters.{YieldsList-from_vec}
 use Rattle.std.proofs.lemmas.List.{length_push}
 use Rattle.conley_walk.specs.Lists.{items_of}
 use Rattle.conley_walk.proofs.ListLemmas.{row_of, length-items_of, All-from_contained}
-use Rattle.conley_morse.specs.Decomposition.{field_of}
+use Rattle.conley_graph.specs.Decomposition.{field_of}
 use Rattle.conley_morse.proofs.RegularLemmas.{class_counts, class_passed}
 use Rattle.conley_transitions.proofs.ClassLemmas.{class_cells, class_closed}
 use Rattle.conley_morse.proofs.CountedLemmas.{counted_same, counted_more}

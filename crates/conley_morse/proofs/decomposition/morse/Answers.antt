@@ -9,7 +9,7 @@ use Rattle.conley_transitions.specs.Classes.{AreRecurrenceClasses}
 use Rattle.conley_transitions.specs.Step.{Step}
 use Rattle.conley_transitions.specs.Field.{IsField}
 use Rattle.conley_morse.specs.Covers.{lower_test, AreCoversSoFar}
-use Rattle.conley_morse.specs.Decomposition.{field_of, IsFinestDecomposition}
+use Rattle.conley_graph.specs.Decomposition.{field_of, IsFinestDecomposition}
 use Rattle.conley_morse.specs.Making.{AreCountedSoFar}
 use Rattle.conley_transitions.proofs.ClassLemmas.{gathered_classes}
 use Rattle.conley_morse.proofs.FinestLemmas.{finest_decomposition, first_cells, lower_is_reach}

@@ -5,7 +5,7 @@ use Rattle.conley_walk.proofs.ListLemmas.{length-items_of}
 use Rattle.conley_field.specs.Arithmetic.{Arithmetic}
 use Rattle.conley_input.specs.ProblemMeaning.{meaning_of}
 use Rattle.conley_transitions.specs.Morse.{set_at}
-use Rattle.conley_morse.specs.Decomposition.{IsConleyMorseGraph, HasTooManySets}
+use Rattle.conley_graph.specs.Decomposition.{IsConleyMorseGraph, HasTooManySets}
 use Rattle.conley_tool.specs.Headline.{prints, refused}
 use Rattle.conley_tool.specs.MorseText.{IsMorseGraphOf}
 use Rattle.conley_tool.specs.MorseMaking.{graph_of}

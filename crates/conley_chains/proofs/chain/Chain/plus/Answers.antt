@@ -7,7 +7,7 @@ use Rattle.conley_chains.proofs.chain.Chain.plus.Goals.{then-i-a, else-i-a+then-
 
 pub loop-i-init : goal.loop-i-init
 loop-i-init g c =
-    rw c.new-sum.ensures (sum_start (g.met.F.Field.is_field c.args.field.now) c.args.by c.entries-a.result.now c.entries-b.result.now
+    rw c.in_ok-sum.ensures (sum_start (g.met.F.Field.is_field c.args.field.now) c.args.by c.entries-a.result.now c.entries-b.result.now
     (rw c.entries-a.ensures.entries c.entries-a.ensures.chain) (rw c.entries-b.ensures.entries c.entries-b.ensures.chain))
 
 pub put-requires : goal.put-requires
@@ -38,8 +38,8 @@ loop-i-preserved-then-q-p g c =
     (rw c.entries-a.ensures.entries c.entries-a.ensures.chain) (rw c.entries-b.ensures.entries c.entries-b.ensures.chain)
     c.loop-i.i c.loop-i.j c.loop-i.sum c.put-then-q-p.new.self f c.loop-i.invariant below c.index-b-j.is (omega (arith, here, c.next_place-q.ensures.place))
     (omega (arith, c.next_place-p.ensures.place, c.next_place-q.ensures.place))
-    (rw (← c.mul.ensures) (record {
-      codes = c.in_ok-put-2.ensures.below _ (rw c.mul.ensures ((g.met.F.Field.is_field c.args.field.now).mul_below _ _)) c.loop-i.invariant.codes;
+    (rw (← c.times.ensures) (record {
+      codes = c.in_ok-put-2.ensures.below _ (rw c.times.ensures ((g.met.F.Field.is_field c.args.field.now).mul_below _ _)) c.loop-i.invariant.codes;
       at = c.in_ok-put-2.ensures.codes;
       places = c.in_ok-put-2.ensures.places;
     }))
@@ -65,7 +65,7 @@ loop-i-preserved g c =
     c.loop-i.i c.loop-i.j c.loop-i.sum c.put-else-q-p.new.self e f c.loop-i.invariant
     e_below c.index-a-i-else-q-p.is e_fits f_below c.index-b-j-else-q-p.is f_fits
     (omega (arith, c.next_place-p.ensures.place, c.next_place-q.ensures.place))
-    (rw (← c.mul-else-q-p.ensures, ← c.add.ensures) (record {
+    (rw (← c.times-else-q-p.ensures, ← c.add.ensures) (record {
       codes = c.in_ok-put-3.ensures.below _ (rw c.add.ensures ((g.met.F.Field.is_field c.args.field.now).add_below _ _)) c.loop-i.invariant.codes;
       at = c.in_ok-put-3.ensures.codes;
       places = c.in_ok-put-3.ensures.places;
