@@ -2,6 +2,7 @@ pub mod File
 pub mod Meaning
 pub mod Listing
 pub mod Refusals
+pub mod Told
 pub mod Places
 pub mod ListingMeaning
 pub mod Problem
