@@ -1,11 +1,12 @@
 -- Words of a line, one after another.
-use Rattle.std.proofs.Common.{◌≡◌, ℕ, ◌+◌, ◌<◌, List, [], ◌∷◌, ◌++◌, Bool, true, false, length, map, take, get_or, refl, sym, ◌∙◌, ap, append_assoc, add-one, arith}
+use Rattle.std.proofs.Common.{◌≡◌, ℕ, zero, suc, ◌+◌, ◌<◌, List, [], ◌∷◌, ◌++◌, Bool, true, false, length, map, take, get_or, refl, sym, ◌∙◌, ap, append_assoc, add-one, arith}
 use Rattle.std.specs.Prelude.{◌||◌, decimal}
 use Rattle.std.specs.List.{join_with_byte, flat_map}
 use Rattle.std.proofs.lemmas.List.{append-nil, take_more, map-append}
 use Rattle.std.proofs.lemmas.Grind.{flat_map-append}
 use Rattle.conley_texts.specs.Line.{line}
-use Rattle.conley_texts.specs.Words.{behind, joined, is_some}
+use Rattle.conley_texts.specs.Words.{IsWritten, AreWritten, behind, joined, is_some}
+use Rattle.conley_texts.specs.declared.words.Words.{Words}
 
 pub join_behind : (word : List ℕ) (words : List (List ℕ)) → join_with_byte 32 (word ∷ words) ≡ word ++ joined true words
 join_behind word [] = sym (append-nil word)
@@ -50,6 +51,12 @@ line_more f xs i d h =
 pub some_parts : {X : Type 0} (f : X → List (List ℕ)) (xs : List X) (i : ℕ) (d : X) → i < length xs →
     is_some (flat_map f (take (i + 1) xs)) ≡ is_some (flat_map f (take i xs)) || is_some (f (get_or xs i d))
 some_parts f xs i d h = ap is_some (parts_more f xs i d h) ∙ is_some-append (flat_map f (take i xs)) (f (get_or xs i d))
+
+-- one part of a line
+pub written_at : (parts : List Words) (i : ℕ) (d : Words) → i < length parts → AreWritten parts → IsWritten (get_or parts i d)
+written_at [] i d h all = absurd (omega arith)
+written_at (words ∷ parts) zero d h all = all.0
+written_at (words ∷ parts) (suc i) d h all = written_at parts i d (omega arith) all.1
 
 -- numbers behind spaces
 joined-numbers : (numbers : List ℕ) → joined true (map decimal numbers) ≡ flat_map (λ n. 32 ∷ decimal n) numbers

@@ -1,7 +1,8 @@
 -- The words of a line, by what they are made from.
 --     labels_of labels cells    the labels of cells
 --     words_of words            the words
---     AreWritten words          each cell that they name has a label
+--     IsWritten words           each cell that they name has a label
+--     AreWritten parts          so of each part of a line
 -- What the writer says of a line that is begun; no clause of another crate cites it.
 --     behind some word          a word that stands behind others, or is the first
 --     joined some words         words that stand behind others, or are the first
@@ -20,9 +21,13 @@ words_of (Number number) = decimal number ∷ []
 words_of (Numbers numbers) = map decimal numbers.now
 words_of (Labels complex cells) = labels_of complex.now.1.labels cells.now
 
-abbrev pub AreWritten : Words → Type 0
-AreWritten (Labels complex cells) = All (λ x. x < length complex.now.1.dims) cells.now
-AreWritten _ = Unit {0}
+abbrev pub IsWritten : Words → Type 0
+IsWritten (Labels complex cells) = All (λ x. x < length complex.now.1.dims) cells.now
+IsWritten _ = Unit {0}
+
+abbrev pub AreWritten : List Words → Type 0
+AreWritten [] = Unit {0}
+AreWritten (words ∷ parts) = IsWritten words × AreWritten parts
 
 abbrev pub behind : Bool → List ℕ → List ℕ
 behind true word = 32 ∷ word

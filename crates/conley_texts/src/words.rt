@@ -22,7 +22,7 @@ pub enum Words<'a> {
     Labels(&'a Complex<AnyField>, &'a [u32]),
 }
 
-ghost use Rattle.conley_texts.specs.Words.{labels_of, words_of, AreWritten, behind, joined, is_some};
+ghost use Rattle.conley_texts.specs.Words.{labels_of, words_of, IsWritten, AreWritten, behind, joined, is_some};
 
 /// Puts a word behind those that a line has.
 fn push_word(text: &mut Vec<u8>, some: bool, word: &[u8]) -> Result<(), AllocError>
@@ -75,7 +75,7 @@ fn push_labels(
 
 /// Puts words behind those that a line has, and says whether it has words now.
 fn push_words(text: &mut Vec<u8>, some: bool, words: &Words) -> Result<bool, AllocError>
-    requires { AreWritten words.now }
+    requires { IsWritten words.now }
     ensures text { OnOk result (text.new.items ≡ text.old.items ++ joined some (words_of words.now)) }
     ensures some { IfOk result (λ now. now ≡ some || is_some (words_of words.now)) }
 {
@@ -95,7 +95,7 @@ fn push_words(text: &mut Vec<u8>, some: bool, words: &Words) -> Result<bool, All
 
 /// Puts a line of these words at the end of a text. Without memory it may have put a part of it.
 pub fn push_line(text: &mut Vec<u8>, words: &[Words]) -> Result<(), AllocError>
-    requires { All AreWritten words.now }
+    requires { AreWritten words.now }
     ensures { OnOk result (text.new.items ≡ text.old.items ++ line (flat_map words_of words.now)) }
 {
     let mut some = false;

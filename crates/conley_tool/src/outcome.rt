@@ -1,9 +1,11 @@
 //! What a run came to.
 
 ghost use Rattle.std.specs.Prelude.{◌≡◌};
-ghost use Rattle.conley_tool.specs.Line.{status_of};
+ghost use Rattle.conley_first.specs.Told as told;
+ghost use Rattle.conley_tool.specs.Line.{words_of, status_of};
 ghost use Rattle.conley_tool.specs.declared.outcome.Outcome.TheVariants.{NoMemory};
 
+use conley_first::Told;
 use conley_input::FileFault;
 use std::alloc::AllocError;
 
@@ -40,6 +42,18 @@ impl From<AllocError> for Outcome {
 
     fn from(_error: AllocError) -> Outcome {
         Outcome::NoMemory
+    }
+}
+
+impl Fault {
+    /// The refusal as it is told: its number, and what it keeps. No memory.
+    pub fn told(&self) -> Told
+        ensures { told.words_of result ≡ words_of self.now }
+    {
+        match self {
+            Fault::File(fault) => fault.told(),
+            Fault::Morse(count) => Told::new(b'E', 14, &[*count as u64]),
+        }
     }
 }
 

@@ -4,9 +4,11 @@
 //! Which parts are regular is told by the caller: the crate knows no homology.
 #![tactic(auto)]
 
+mod classes;
 mod laws;
 mod steps;
 
+pub use classes::recurrence_classes;
 pub use laws::{finest_decomposition, invariant_parts, isolated_sets};
 pub use steps::transitions;
 

@@ -1,9 +1,12 @@
-use Rattle.std.proofs.Common.{◌≡◌, ◌∙◌, ◌++◌, ap, sym, take, false, append_assoc}
+use Rattle.std.proofs.Common.{◌≡◌, ◌∙◌, ◌++◌, ap, sym, subst, take, false, append_assoc}
 use Rattle.std.specs.Prelude.{◌||◌}
 use Rattle.std.specs.List.{flat_map}
-use Rattle.conley_texts.specs.Words.{words_of, joined, is_some}
-use Rattle.conley_texts.proofs.JoinLemmas.{line_more, some_parts}
+use Rattle.conley_texts.specs.Words.{words_of, IsWritten, joined, is_some}
+use Rattle.conley_texts.proofs.JoinLemmas.{line_more, some_parts, written_at}
 use Rattle.conley_texts.proofs.words.push_line.Goals as goal
+
+pub push_words-requires : goal.push_words-requires
+push_words-requires c = let item = c.part-item.result in subst IsWritten (sym c.part-item.is) (written_at c.args.words.now c.loop-part.part-index item c.loop-part-test.true c.requires)
 
 pub loop-part-preserved : goal.loop-part-preserved
 loop-part-preserved c =
