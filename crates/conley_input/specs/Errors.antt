@@ -1,4 +1,6 @@
 -- The refusal of a file whose cells make no complex, and of one whose parts make no partition.
+--     file_error error     that of cells that make no complex
+--     part_error error     that of parts that make no partition
 use Rattle.conley_lefschetz.specs.declared.error.ComplexError.{ComplexError}
 use Rattle.conley_lefschetz.specs.declared.error.ComplexError.TheVariants as complex
 use Rattle.conley_mvf.specs.declared.error.PartError.{PartError}
