@@ -1,11 +1,11 @@
 -- How a refusal of a certificate is told.
+--     told_as number kept     a name of this number, with what is kept
 --     words_of_fault fault    C1 to C4, with the member and then the number or the place that it keeps
 -- The wording is this project's own.
 use Rattle.std.specs.Prelude.{ℕ, List, [], ◌∷◌, ◌++◌, map, decimal, codes}
 use Rattle.conley_certificate_file.specs.declared.error.CertFault.{CertFault}
 use Rattle.conley_certificate_file.specs.declared.error.CertFault.TheVariants.{NotJson, BadShape, Differs, BadPlace}
 
--- a name of this number, with what is kept
 abbrev pub told_as : ℕ → List ℕ → List (List ℕ)
 told_as number kept = (codes "C" ++ decimal number) ∷ map decimal kept
 
