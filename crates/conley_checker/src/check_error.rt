@@ -4,11 +4,16 @@ ghost use Rattle.conley_checker.specs.CheckFault.{no_memory};
 
 use conley_certificate::Reason;
 use std::alloc::AllocError;
+use thiserror::Error;
 
 /// Why a certificate is no analysis, or that there was no memory to tell.
-#[derive(Debug, Drop)]
+#[derive(Clone, Copy, Debug, Error)]
 pub enum CheckError {
+    /// A law fails: the first that does, with its first place.
+    #[error("the certificate is rejected")]
     Rejected(Reason),
+    /// Memory is wanting.
+    #[error("no memory")]
     NoMemory,
 }
 
