@@ -1,9 +1,10 @@
 -- At most one thing is due where files are told.
 use Rattle.std.proofs.Common.{◌≡◌, inl, inr, ◌<◌, ℕ, List, Option, Some, None, map, length, sym, ◌∙◌, ap, subst, arith}
 use Rattle.std.specs.Prelude.{IsSomeAnd}
-use Rattle.conley_outside.specs.Depot.{Files, Lacks}
+use Rattle.conley_outside.specs.Depot.{Lacks}
 use Rattle.conley_field.specs.Arithmetic.{IsField}
 use Rattle.conley_field.specs.Prime.{residues}
+use Rattle.conley_lefschetz.specs.Complex.{IsLayout}
 use Rattle.conley_lefschetz.specs.Conley.{AreConleyNumbers}
 use Rattle.conley_lefschetz.proofs.ConleyLemmas.{numbers_are_one}
 use Rattle.conley_texts.specs.Line.{text_of}
@@ -14,17 +15,22 @@ use Rattle.conley_graph.specs.Covers.{AreCovers}
 use Rattle.conley_graph.specs.Decomposition.{field_of}
 use Rattle.conley_graph.proofs.OnceLemmas.{finest_once, covers_once, numbers_once}
 use Rattle.conley_input.specs.Problem.{Problem}
-use Rattle.conley_input.proofs.OnceLemmas.{refused_once, not_refused_and_read, read_once, read_prime}
+use Rattle.conley_input.specs.Problem.{Reads}
+use Rattle.conley_input.proofs.OnceLemmas.{refused_once, not_refused_and_read, read_once, read_prime, read_sound}
+use Rattle.conley_certificate_file.specs.Certificate.{Certificate}
+use Rattle.conley_certificate_file.proofs.OnceLemmas as certificates
+use Rattle.conley_certificate.specs.Problem as certificate
 use Rattle.conley_tool.specs.Due.{Due, ends, prints}
 use Rattle.conley_tool.specs.Words.{Command}
 use Rattle.conley_tool.specs.Fetches.{Holds, IsLonger, AfterFetch, AfterProblem}
 use Rattle.conley_tool.specs.Classes.{ClassesAreDue}
 use Rattle.conley_tool.specs.Morse.{MorseGraph, IsMorseGraphOf, morse_lines, MorseIsDue}
+use Rattle.conley_tool.specs.Check.{certificate_limit, in_full, VerdictIsDue, AfterCertificate, CheckIsDue}
 use Rattle.conley_tool.specs.Headline.{IsDueOn, IsDue}
 use Rattle.conley_tool.specs.declared.words.Verb.{Verb}
-use Rattle.conley_tool.specs.declared.words.Verb.TheVariants.{Classes, Morse}
+use Rattle.conley_tool.specs.declared.words.Verb.TheVariants.{Classes, Morse, Check}
 use Rattle.conley_tool.specs.declared.outcome.Fault.TheVariants as fault
-use Rattle.conley_tool.specs.declared.outcome.Outcome.TheVariants.{Refused}
+use Rattle.conley_tool.specs.declared.outcome.Outcome.TheVariants.{Refused, Rejected}
 
 -- ---- steps: over any next step of which at most one thing is due
 
@@ -59,13 +65,13 @@ after_fetch_once file_of name limit Next once a b (inr (inr r)) (inl s) = absurd
 after_fetch_once file_of name limit Next once a b (inr (inr r)) (inr (inl s)) = absurd (lacking_not_longer file_of name limit s.0 r.0)
 after_fetch_once file_of name limit Next once a b (inr (inr r)) (inr (inr s)) = r.1 ∙ sym s.1
 
-pub after_problem_once : (bytes : List ℕ) (Next : Problem → Due → Type 0) → ((p : Problem) → IsField (residues p.order) → IsOnce (Next p)) → IsOnce (AfterProblem bytes Next)
+pub after_problem_once : (bytes : List ℕ) (Next : Problem → Due → Type 0) → ((p : Problem) → Reads bytes p → IsOnce (Next p)) → IsOnce (AfterProblem bytes Next)
 after_problem_once bytes Next once a b (inl r) (inl s) = r.2 ∙ ap (λ f. ends (Refused (fault.File f))) (refused_once bytes r.0 s.0 r.1 s.1) ∙ sym s.2
 after_problem_once bytes Next once a b (inl r) (inr s) = absurd (not_refused_and_read bytes r.0 s.0 r.1 s.1)
 after_problem_once bytes Next once a b (inr r) (inl s) = absurd (not_refused_and_read bytes s.0 r.0 s.1 r.1)
 after_problem_once bytes Next once a b (inr r) (inr s) =
     let is = subst (λ (p : Problem). Next p b) (sym (read_once bytes r.0 s.0 r.1 s.1)) s.2 in
-    once r.0 (read_prime bytes r.0 r.1) a b r.2 is
+    once r.0 r.1 a b r.2 is
 
 -- ---- commands
 
@@ -94,12 +100,34 @@ morse_once_due p laws a b (inl r) (inr s) = let e = ap length (finest_once p.com
 morse_once_due p laws a b (inr r) (inl s) = let e = ap length (finest_once p.complex p.part_of s.1.1.0 r.0.sets s.1.1.1 r.1.sets) in absurd (omega (arith, e, s.1.0, s.1.1.2, r.2))
 morse_once_due p laws a b (inr r) (inr s) = r.3 ∙ ap (λ lines. prints (text_of lines)) (graph_lines_once p laws r.0 s.0 r.1 s.1) ∙ sym s.3
 
-due_on_once : (verb : Verb) (files : Files) (arguments : List (List ℕ)) (p : Problem) → IsField (residues p.order) → IsOnce (IsDueOn verb files arguments p)
-due_on_once Classes files arguments p laws a b r s = classes_once_due p a b r s
-due_on_once Morse files arguments p laws a b r s = morse_once_due p laws a b r s
+verdict_once : (P : certificate.Problem) (C : Certificate) → IsOnce (VerdictIsDue P C)
+verdict_once P C a b (inl r) (inl s) = r.1 ∙ sym s.1
+verdict_once P C a b (inl r) (inr s) = absurd (s.0 r.0)
+verdict_once P C a b (inr r) (inl s) = absurd (r.0 s.0)
+verdict_once P C a b (inr r) (inr s) =
+    let e : Some r.1.0 ≡ Some s.1.0 = sym r.1.1 ∙ s.1.1 in
+    let same : r.1.0 ≡ s.1.0 = cc in
+    r.1.2 ∙ ap (λ reason. ends (Rejected reason)) same ∙ sym s.1.2
+
+check_once_due : (file_of : List ℕ → Option (List ℕ)) (name : List ℕ) (p : Problem) → IsLayout (residues p.order) p.complex → IsOnce (CheckIsDue (Some file_of) name p)
+check_once_due file_of name p laws =
+    after_fetch_once file_of name certificate_limit (λ bytes. AfterCertificate (residues p.order) p.complex bytes (VerdictIsDue (in_full p))) (λ bytes. certificate_once bytes)
+  where
+    certificate_once : (bytes : List ℕ) → IsOnce (AfterCertificate (residues p.order) p.complex bytes (VerdictIsDue (in_full p)))
+    certificate_once bytes a b (inl r) (inl s) = r.2 ∙ ap (λ f. ends (Refused (fault.Cert f))) (certificates.refused_once (residues p.order) p.complex bytes r.0 s.0 r.1 s.1) ∙ sym s.2
+    certificate_once bytes a b (inl r) (inr s) = absurd (certificates.not_refused_and_read (residues p.order) p.complex bytes r.0 s.0 r.1 s.1)
+    certificate_once bytes a b (inr r) (inl s) = absurd (certificates.not_refused_and_read (residues p.order) p.complex bytes s.0 r.0 s.1 r.1)
+    certificate_once bytes a b (inr r) (inr s) =
+        let same = certificates.read_once (residues p.order) p.complex laws bytes r.0 s.0 r.1 s.1 in
+        verdict_once (in_full p) r.0 a b r.2 (subst (λ (C : Certificate). VerdictIsDue (in_full p) C b) (sym same) s.2)
+
+due_on_once : (verb : Verb) (file_of : List ℕ → Option (List ℕ)) (arguments : List (List ℕ)) (bytes : List ℕ) (p : Problem) → Reads bytes p → IsOnce (IsDueOn verb (Some file_of) arguments p)
+due_on_once Classes file_of arguments bytes p reads a b r s = classes_once_due p a b r s
+due_on_once Morse file_of arguments bytes p reads a b r s = morse_once_due p (read_prime bytes p reads) a b r s
+due_on_once Check file_of arguments bytes p reads a b r s = let sound = read_sound bytes p reads in check_once_due file_of _ p sound.laws a b r s
 
 pub due_once : (file_of : List ℕ → Option (List ℕ)) (command : Option Command) → IsOnce (IsDue (Some file_of) command)
 due_once file_of None a b r s = r ∙ sym s
 due_once file_of (Some command) a b r s =
     let on = IsDueOn command.verb (Some file_of) command.arguments in
-    after_fetch_once file_of _ _ (λ bytes. AfterProblem bytes on) (λ bytes. after_problem_once bytes on (due_on_once command.verb (Some file_of) command.arguments)) a b r s
+    after_fetch_once file_of _ _ (λ bytes. AfterProblem bytes on) (λ bytes. after_problem_once bytes on (due_on_once command.verb file_of command.arguments bytes)) a b r s

@@ -3,18 +3,21 @@
 --     ProblemCause files file read outcome       the cause of an outcome that reading a problem gives
 --     EndCause Is read outcome                   the cause of an outcome that ends a run before its text, where `Is` says what is due
 --     StandsFor files file problem               the file may have bytes that stand for the problem
+--     due_of answer                              an answer that a command gave, as what is due
 --     graph_of found                             the Morse graph of a decomposition that was found
 use Rattle.std.specs.Prelude.{◌⊎◌, ℕ, List}
 use Rattle.conley_outside.specs.Depot.{Files, Lacks}
 use Rattle.conley_walk.specs.Lists.{items_of}
 use Rattle.conley_morse.specs.declared.decomposition.Decomposition.{Decomposition}
 use Rattle.conley_input.specs.Problem.{Problem, Reads, Refuses}
-use Rattle.conley_tool.specs.Due.{Due, ends}
+use Rattle.conley_tool.specs.Due.{Due, ends, prints, accepts}
 use Rattle.conley_tool.specs.Fetches.{Holds, IsLonger, file_limit}
 use Rattle.conley_tool.specs.Morse.{MorseGraph}
+use Rattle.conley_tool.specs.declared.answer.Answer.{Answer}
+use Rattle.conley_tool.specs.declared.answer.Answer.TheVariants.{Prints, Accepts}
 use Rattle.conley_tool.specs.declared.outcome.Fault.TheVariants.{File}
 use Rattle.conley_tool.specs.declared.outcome.Outcome.{Outcome}
-use Rattle.conley_tool.specs.declared.outcome.Outcome.TheVariants.{Refused, ReadFault, TooLong, NoMemory}
+use Rattle.conley_tool.specs.declared.outcome.Outcome.TheVariants.{Refused, Rejected, ReadFault, TooLong, NoMemory}
 
 abbrev pub FetchCause : Files → List ℕ → ℕ → (read : Type 0) → Outcome → Type 0
 FetchCause files name limit read ReadFault = read ⊎ Lacks files name
@@ -28,6 +31,7 @@ ProblemCause files file read outcome = FetchCause files file file_limit read out
 
 abbrev pub EndCause : (Due → Type 0) → (read : Type 0) → Outcome → Type 0
 EndCause Is read (Refused fault) = Is (ends (Refused fault))
+EndCause Is read (Rejected reason) = Is (ends (Rejected reason))
 EndCause Is read TooLong = Is (ends TooLong)
 EndCause Is read ReadFault = read ⊎ Is (ends ReadFault)
 EndCause Is read NoMemory = Unit {0}
@@ -35,6 +39,10 @@ EndCause Is read _ = ⊥
 
 abbrev pub StandsFor : Files → List ℕ → Problem → Type 0
 StandsFor files file problem = (bytes : List ℕ) × Holds files file file_limit bytes × Reads bytes problem
+
+abbrev pub due_of : Answer → Due
+due_of (Prints text) = prints text.items
+due_of Accepts = accepts
 
 abbrev pub graph_of : Decomposition → MorseGraph
 graph_of found = record { sets = items_of found.sets.items; numbers = items_of found.numbers.items; order = found.order.items }

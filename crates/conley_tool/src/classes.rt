@@ -4,10 +4,10 @@ ghost use Rattle.std.specs.Prelude.{IfOk, IfErr};
 ghost use Rattle.conley_input.specs.Problem.{IsSound};
 ghost use Rattle.conley_input.specs.ProblemMeaning.{meaning_of};
 ghost use Rattle.conley_tool.specs.Classes.{IsClassesText, ClassesAreDue};
-ghost use Rattle.conley_tool.specs.Due.{prints};
-ghost use Rattle.conley_tool.specs.Ends.{EndCause};
+ghost use Rattle.conley_tool.specs.Ends.{EndCause, due_of};
 
 use crate::Outcome;
+use crate::answer::Answer;
 use conley_input::Problem;
 use conley_texts::{Words, push_line};
 use conley_transitions::recurrence_classes;
@@ -28,10 +28,10 @@ fn classes_text(alloc: Global, problem: &Problem) -> Result<Vec<u8>, AllocError>
 }
 
 /// The text of the recurrence classes.
-pub(crate) fn answer_classes(alloc: Global, problem: &Problem) -> Result<Vec<u8>, Outcome>
+pub(crate) fn answer_classes(alloc: Global, problem: &Problem) -> Result<Answer, Outcome>
     requires { IsSound (meaning_of problem.now) }
-    ensures ok { IfOk result (λ text. ClassesAreDue (meaning_of problem.now) (prints text.items)) }
+    ensures ok { IfOk result (λ answer. ClassesAreDue (meaning_of problem.now) (due_of answer)) }
     ensures err { IfErr result (EndCause (ClassesAreDue (meaning_of problem.now)) ⊥) }
 {
-    Ok(classes_text(alloc, problem)?)
+    Ok(Answer::Prints(classes_text(alloc, problem)?))
 }

@@ -13,7 +13,7 @@ use conley_outside::{Depot, FetchError};
 use std::alloc::Global;
 
 /// Fetches a file whole, or gives the outcome that ends the run.
-fn read_file<D: Depot>(
+pub(crate) fn read_file<D: Depot>(
     alloc: Global,
     name: &str,
     limit: usize,

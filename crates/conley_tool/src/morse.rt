@@ -7,9 +7,9 @@ ghost use Rattle.conley_input.specs.Problem.{IsSound};
 ghost use Rattle.conley_input.specs.ProblemMeaning.{meaning_of};
 ghost use Rattle.conley_texts.specs.Line.{line, text_of};
 ghost use Rattle.conley_tool.specs.Morse.{set_words, order_words, morse_lines, MorseIsDue};
-ghost use Rattle.conley_tool.specs.Due.{prints};
-ghost use Rattle.conley_tool.specs.Ends.{EndCause, graph_of};
+ghost use Rattle.conley_tool.specs.Ends.{EndCause, due_of, graph_of};
 
+use crate::answer::Answer;
 use crate::{Fault, Outcome};
 use conley_field::AnyField;
 use conley_input::Problem;
@@ -74,9 +74,9 @@ fn morse_text(
 }
 
 /// The text of the Morse sets, or the refusal of too many.
-pub(crate) fn answer_morse(alloc: Global, problem: &Problem) -> Result<Vec<u8>, Outcome>
+pub(crate) fn answer_morse(alloc: Global, problem: &Problem) -> Result<Answer, Outcome>
     requires { IsSound (meaning_of problem.now) }
-    ensures ok { IfOk result (λ text. MorseIsDue (meaning_of problem.now) (prints text.items)) }
+    ensures ok { IfOk result (λ answer. MorseIsDue (meaning_of problem.now) (due_of answer)) }
     ensures err { IfErr result (EndCause (MorseIsDue (meaning_of problem.now)) ⊥) }
 {
     let found = match morse(alloc, &problem.complex, &problem.partition) {
@@ -84,5 +84,5 @@ pub(crate) fn answer_morse(alloc: Global, problem: &Problem) -> Result<Vec<u8>, 
         Err(MorseError::TooManyMorse(count)) => return Err(Outcome::Refused(Fault::Morse(count))),
         Err(MorseError::NoMemory) => return Err(Outcome::NoMemory),
     };
-    Ok(morse_text(alloc, &problem.complex, &found)?)
+    Ok(Answer::Prints(morse_text(alloc, &problem.complex, &found)?))
 }

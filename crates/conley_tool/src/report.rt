@@ -17,8 +17,9 @@ pub(crate) fn report<E: Sink>(outcome: &Outcome, err: &mut E) -> Result<(), Fail
     ensures cause { HasCause (E.faults err.old) (E.faults err.new) result }
 {
     match outcome {
-        Outcome::Done => put_whole(err, b""),
+        Outcome::Done | Outcome::Accepted => put_whole(err, b""),
         Outcome::Refused(fault) => put_told(err, "refused", &fault.told()),
+        Outcome::Rejected(reason) => put_told(err, "rejected", &reason.told()),
         Outcome::Usage => put_whole(err, USAGE.as_bytes()),
         Outcome::ReadFault => put_whole(err, b"read fault\n"),
         Outcome::TooLong => put_whole(err, b"too long\n"),

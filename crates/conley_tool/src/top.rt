@@ -10,10 +10,12 @@ ghost use Rattle.conley_tool.specs.CommandMeaning.{meaning_of};
 ghost use Rattle.conley_tool.specs.Line.{line_of};
 ghost use Rattle.conley_tool.specs.Headline.{IsDueOn, IsDueOf, IsDueFor};
 ghost use Rattle.conley_tool.specs.Outcomes.{HasCause, Gains, IsAnswer};
-ghost use Rattle.conley_tool.specs.Due.{prints};
-ghost use Rattle.conley_tool.specs.Ends.{EndCause};
+ghost use Rattle.conley_tool.specs.Words.{arguments_of};
+ghost use Rattle.conley_tool.specs.Ends.{EndCause, due_of};
 
 use crate::Outcome;
+use crate::answer::Answer;
+use crate::check::answer_check;
 use crate::classes::answer_classes;
 use crate::fetch::read_problem;
 use crate::morse::answer_morse;
@@ -24,15 +26,16 @@ use conley_outside::{Depot, Sink};
 use conley_texts::put_whole;
 use std::alloc::Global;
 
-/// The text that a command has for a problem, or the outcome that ends the run.
+/// What a command answers for a problem, or the outcome that ends the run.
 fn answer_on<D: Depot>(
     alloc: Global,
     command: &Command,
     problem: &Problem,
     depot: &mut D,
-) -> Result<Vec<u8>, Outcome>
-    requires { IsSound (read.meaning_of problem.now) }
-    ensures ok { IfOk result (λ text. IsDueOn command.now.verb (D.files depot.old) (meaning_of command.now).arguments (read.meaning_of problem.now) (prints text.items)) }
+) -> Result<Answer, Outcome>
+    requires sound { IsSound (read.meaning_of problem.now) }
+    requires counted { length command.now.arguments.now ≡ length (arguments_of command.now.verb) }
+    ensures ok { IfOk result (λ answer. IsDueOn command.now.verb (D.files depot.old) (meaning_of command.now).arguments (read.meaning_of problem.now) (due_of answer)) }
     ensures err { IfErr result (EndCause (IsDueOn command.now.verb (D.files depot.old) (meaning_of command.now).arguments (read.meaning_of problem.now)) (Rose (D.faults depot.old) (D.faults depot.new))) }
     ensures same_files { D.files depot.new ≡ D.files depot.old }
     ensures later { D.faults depot.old ≤ D.faults depot.new }
@@ -40,20 +43,22 @@ fn answer_on<D: Depot>(
     match command.verb {
         Verb::Classes => answer_classes(alloc, problem),
         Verb::Morse => answer_morse(alloc, problem),
+        Verb::Check => answer_check(alloc, problem, command.arguments[1].as_str(), depot),
     }
 }
 
-/// The text that a command has, or the outcome that ends the run.
-fn answer<D: Depot>(alloc: Global, command: &Command, depot: &mut D) -> Result<Vec<u8>, Outcome>
-    requires { 0 < length command.now.arguments.now }
-    ensures ok { IfOk result (λ text. IsDueOf (D.files depot.old) (meaning_of command.now) (prints text.items)) }
+/// What a command answers, or the outcome that ends the run.
+fn answer<D: Depot>(alloc: Global, command: &Command, depot: &mut D) -> Result<Answer, Outcome>
+    requires some { 0 < length command.now.arguments.now }
+    requires counted { length command.now.arguments.now ≡ length (arguments_of command.now.verb) }
+    ensures ok { IfOk result (λ answer. IsDueOf (D.files depot.old) (meaning_of command.now) (due_of answer)) }
     ensures err { IfErr result (EndCause (IsDueOf (D.files depot.old) (meaning_of command.now)) (Rose (D.faults depot.old) (D.faults depot.new))) }
     ensures same_files { D.files depot.new ≡ D.files depot.old }
 {
     let file = command.arguments[0].as_str();
     let problem = read_problem(alloc, file, depot)?;
-    let text = answer_on(alloc, command, &problem, depot)?;
-    Ok(text)
+    let answer = answer_on(alloc, command, &problem, depot)?;
+    Ok(answer)
 }
 
 /// All of a run but the line on `err`. The whole text is made before the first byte is put.
@@ -71,19 +76,20 @@ fn outcome_of<D: Depot, O: Sink>(
     let Some(command) = parse_words(words) else {
         return Outcome::Usage;
     };
-    let text = match answer(alloc, &command, depot) {
-        Ok(text) => text,
+    let answer = match answer(alloc, &command, depot) {
+        Ok(answer) => answer,
         Err(outcome) => return outcome,
     };
-    match put_whole(out, &text) {
-        Ok(()) => Outcome::Done,
+    match put_whole(out, answer.text()) {
+        Ok(()) => answer.outcome(),
         Err(_) => Outcome::WriteFault,
     }
 }
 
 /// Runs the command that the words name: `classes FILE`, which prints the recurrence classes of the problem in FILE,
-/// or `morse FILE`, which prints its Morse sets with their Conley indices, and the order of the sets.
-/// Its text goes to `out`, and for any outcome but `Done` one line to `err`; a fault of `err` changes no outcome.
+/// `morse FILE`, which prints its Morse sets with their Conley indices, and the order of the sets,
+/// or `check FILE CERT`, which tells whether the certificate in CERT is an analysis of the problem.
+/// Its text goes to `out`, and for any outcome but `Done` and `Accepted` one line to `err`; a fault of `err` changes no outcome.
 pub fn run<D: Depot, O: Sink, E: Sink>(
     alloc: Global,
     words: &[String],

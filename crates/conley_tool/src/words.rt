@@ -12,10 +12,12 @@ pub(crate) enum Verb {
     Classes,
     /// Its Morse sets with their indices and their order.
     Morse,
+    /// Whether a certificate is an analysis of it.
+    Check,
 }
 
 /// The forms of all words, in the order of the verbs.
-pub(crate) const USAGE: &str = "usage: conley classes FILE | morse FILE\n";
+pub(crate) const USAGE: &str = "usage: conley classes FILE | morse FILE | check FILE CERT\n";
 
 /// A verb and its arguments.
 #[derive(Clone, Copy)]
@@ -31,6 +33,7 @@ fn verb_of(word: &str) -> Option<Verb>
     match word {
         "classes" => Some(Verb::Classes),
         "morse" => Some(Verb::Morse),
+        "check" => Some(Verb::Check),
         _ => None,
     }
 }
@@ -42,6 +45,7 @@ fn argument_count(verb: Verb) -> usize
 {
     match verb {
         Verb::Classes | Verb::Morse => 1,
+        Verb::Check => 2,
     }
 }
 
@@ -49,6 +53,7 @@ fn argument_count(verb: Verb) -> usize
 pub(crate) fn parse_words(words: &[String]) -> Option<Command>
     ensures command { option_map meaning_of result ≡ command_of (map string_bytes words.now) }
     ensures some { IfSome result (λ command. 0 < length command.arguments.now) }
+    ensures counted { IfSome result (λ command. length command.arguments.now ≡ length (arguments_of command.verb)) }
 {
     let (word, arguments) = words.split_first()?;
     let verb = verb_of(word.as_str())?;

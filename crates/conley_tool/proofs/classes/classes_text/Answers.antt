@@ -1,5 +1,5 @@
 -- one more line
-use Rattle.std.proofs.Common.{arith, [], ◌≡◌, ◌<◌, ◌++◌, ℕ, List, map, take, length, get_or, sym, ◌∙◌, ap, subst}
+use Rattle.std.proofs.Common.{arith, [], ◌≡◌, ◌<◌, ◌++◌, ℕ, List, map, length, get_or, sym, ◌∙◌, ap, subst}
 use Rattle.std.specs.Prelude.{All}
 use Rattle.std.proofs.lemmas.List.{take_all, append-nil}
 use Rattle.conley_walk.specs.Lists.{items_of}

@@ -1,6 +1,6 @@
 -- one more line
-use Rattle.std.proofs.Common.{arith, ◌≡◌, ◌+◌, ◌<◌, ◌++◌, ◌∷◌, [], ℕ, List, length, map, get_or, take, sym, ◌∙◌, ap, append_assoc}
-use Rattle.std.specs.List.{range_with_len, flat_map}
+use Rattle.std.proofs.Common.{arith, ◌+◌, ◌++◌, ◌∷◌, [], ℕ, List, length, map, get_or, take, sym, ◌∙◌, ap, append_assoc}
+use Rattle.std.specs.List.{range_with_len}
 use Rattle.std.proofs.lemmas.List.{append-nil, map-append}
 use Rattle.conley_texts.specs.Line.{line, text_of}
 use Rattle.conley_texts.proofs.LineLemmas.{text_of-append, text_more}
