@@ -21,6 +21,3 @@ pub use top::run;
 
 /// The most bytes of a file: 64 MiB.
 pub const FILE_LIMIT: usize = 67_108_864;
-
-#[cfg(test)]
-mod tests;
