@@ -10,8 +10,6 @@ mod error;
 mod laws;
 mod matrix;
 mod placing;
-#[cfg(test)]
-mod tests;
 mod transposing;
 
 pub use chain::Chain;

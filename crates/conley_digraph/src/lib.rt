@@ -18,6 +18,3 @@ pub use turning::turned_round;
 
 /// Want of memory.
 pub type NoMemory = std::alloc::AllocError;
-
-#[cfg(test)]
-mod tests;

@@ -16,6 +16,3 @@ use std::alloc::AllocError;
 
 /// Where there is no memory.
 pub type NoMemory = AllocError;
-
-#[cfg(test)]
-mod tests;

@@ -18,6 +18,3 @@ pub use error::ComplexError;
 pub use laws::{
     complex_of_listing_is_one, conley_numbers_are_one, first_fault_is_one, regular_sets_have_zeros,
 };
-
-#[cfg(test)]
-mod tests;

@@ -13,6 +13,3 @@ pub use grading::{Grading, same};
 pub use lower::{is_next, lower_rows, lower_still};
 pub use reach_rows::ReachRows;
 pub use words::words_of;
-
-#[cfg(test)]
-mod tests;

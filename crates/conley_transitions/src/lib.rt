@@ -14,6 +14,3 @@ pub use steps::transitions;
 
 /// Want of memory.
 pub type NoMemory = std::alloc::AllocError;
-
-#[cfg(test)]
-mod tests;
