@@ -35,7 +35,8 @@ use Rattle.conley_certificate.proofs.SetLemmas.{AreWantedClasses}
 use Rattle.conley_certificate.proofs.ClassLemmas.{two_parts_count, part_critical, part_regular, counted}
 use Rattle.conley_certificate.proofs.LawLemmas.{LawsKept}
 use Rattle.conley_certificate.proofs.OrderLemmas.{cover_same, listed-Contains, Contains-listed, is_lower, lower_order, is_cover-IsCover, IsCover-is_cover}
-use Rattle.conley_certificate.proofs.WithinLemmas.{entry_within, same_within, zero-is_matrix}
+use Rattle.conley_algebra.proofs.MatrixLemmas.{same_within}
+use Rattle.conley_certificate.proofs.WithinLemmas.{entry_within, zero-is_matrix}
 
 module _ (P : Problem) (ok : IsProblem P) (C : Certificate) (fits : Fits P.scalars P.complex C) (kept : LawsKept P C) where
   are : AreWantedClasses P ok C fits

@@ -6,6 +6,7 @@
 #![tactic(auto)]
 
 mod chain;
+mod codes;
 mod error;
 mod laws;
 mod matrix;

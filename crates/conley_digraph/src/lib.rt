@@ -3,7 +3,6 @@
 //! Open specs/Heads.antt for what a digraph keeps and specs/Classes.antt for classes. Walks and reach are those of conley_walk, rows of bits those of conley_order.
 #![tactic(auto)]
 
-mod bits;
 mod digraph;
 mod error;
 mod numbering;

@@ -9,6 +9,7 @@ mod column;
 mod counting;
 mod cycles;
 mod elimination;
+mod row;
 
 pub use counting::numbers;
 pub use cycles::{Homology, relative};
