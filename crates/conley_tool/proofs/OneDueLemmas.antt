@@ -1,5 +1,5 @@
 -- At most one thing is due where files are told.
-use Rattle.std.proofs.Common.{◌≡◌, inl, inr, ◌<◌, ℕ, List, Option, Some, None, map, length, sym, ◌∙◌, ap, subst, arith}
+use Rattle.std.proofs.Common.{◌≡◌, inl, inr, ◌<◌, ℕ, List, Option, Some, None, map, length, sym, ◌∙◌, ap, subst, arith, refl, ◌≤◌}
 use Rattle.std.specs.Prelude.{IsSomeAnd}
 use Rattle.conley_outside.specs.Depot.{Lacks}
 use Rattle.conley_field.specs.Arithmetic.{IsField}
@@ -12,7 +12,7 @@ use Rattle.conley_texts.specs.Words.{labels_of}
 use Rattle.conley_transitions.specs.Morse.{set_at}
 use Rattle.conley_transitions.proofs.ClassLemmas.{classes_once}
 use Rattle.conley_graph.specs.Covers.{AreCovers}
-use Rattle.conley_graph.specs.Decomposition.{field_of}
+use Rattle.conley_graph.specs.Decomposition.{field_of, HasTooManySets}
 use Rattle.conley_graph.proofs.OnceLemmas.{finest_once, covers_once, numbers_once}
 use Rattle.conley_input.specs.Problem.{Problem}
 use Rattle.conley_input.specs.Problem.{Reads}
@@ -20,23 +20,29 @@ use Rattle.conley_input.proofs.OnceLemmas.{refused_once, not_refused_and_read, r
 use Rattle.conley_certificate_file.specs.Certificate.{Certificate}
 use Rattle.conley_certificate_file.proofs.OnceLemmas as certificates
 use Rattle.conley_certificate.specs.Problem as certificate
+use Rattle.conley_analysis.specs.Text.{IsAnalysisText}
 use Rattle.conley_tool.specs.Due.{Due, ends, prints}
 use Rattle.conley_tool.specs.Words.{Command}
 use Rattle.conley_tool.specs.Fetches.{Holds, IsLonger, AfterFetch, AfterProblem}
 use Rattle.conley_tool.specs.Classes.{ClassesAreDue}
 use Rattle.conley_tool.specs.Morse.{MorseGraph, IsMorseGraphOf, morse_lines, MorseIsDue}
-use Rattle.conley_tool.specs.Check.{certificate_limit, in_full, VerdictIsDue, AfterCertificate, CheckIsDue}
-use Rattle.conley_tool.specs.Headline.{IsDueOn, IsDue}
+use Rattle.conley_tool.specs.Analyze.{in_full, AnalysisIsDue, AreAlike}
+use Rattle.conley_tool.specs.Check.{certificate_limit, VerdictIsDue, AfterCertificate, CheckIsDue}
+use Rattle.conley_tool.specs.Headline.{IsDueOn, IsDue, Analyzes}
 use Rattle.conley_tool.specs.declared.words.Verb.{Verb}
-use Rattle.conley_tool.specs.declared.words.Verb.TheVariants.{Classes, Morse, Check}
+use Rattle.conley_tool.specs.declared.words.Verb.TheVariants.{Classes, Morse, Analyze, Check}
 use Rattle.conley_tool.specs.declared.outcome.Fault.TheVariants as fault
 use Rattle.conley_tool.specs.declared.outcome.Outcome.TheVariants.{Refused, Rejected}
 
--- ---- steps: over any next step of which at most one thing is due
+-- ---- steps: over any next step of which the things that are due are alike, by any relation that equal things have
+
+-- any two things of which a sentence holds are alike
+abbrev IsOnceBy : (Due → Due → Type 0) → (Due → Type 0) → Type 0
+IsOnceBy Alike Is = (a b : Due) → Is a → Is b → Alike a b
 
 -- at most one thing satisfies a sentence
-abbrev pub IsOnce : (Due → Type 0) → Type 0
-IsOnce Is = (a b : Due) → Is a → Is b → a ≡ b
+abbrev IsOnce : (Due → Type 0) → Type 0
+IsOnce Is = IsOnceBy (λ a b. a ≡ b) Is
 
 -- a told file has one list of bytes
 held_once : (file_of : List ℕ → Option (List ℕ)) (name : List ℕ) (limit : ℕ) (a b : List ℕ) → Holds (Some file_of) name limit a → Holds (Some file_of) name limit b → a ≡ b
@@ -52,26 +58,27 @@ held_not_longer file_of name limit bytes r s = let long = subst (λ (held : Opti
 lacking_not_longer : (file_of : List ℕ → Option (List ℕ)) (name : List ℕ) (limit : ℕ) → Lacks (Some file_of) name → IsLonger (Some file_of) name limit → ⊥
 lacking_not_longer file_of name limit s t = subst (λ (held : Option (List ℕ)). IsSomeAnd held (λ bytes. limit < length bytes)) s t
 
-pub after_fetch_once : (file_of : List ℕ → Option (List ℕ)) (name : List ℕ) (limit : ℕ) (Next : List ℕ → Due → Type 0) → ((bytes : List ℕ) → IsOnce (Next bytes)) →
-    IsOnce (AfterFetch (Some file_of) name limit Next)
-after_fetch_once file_of name limit Next once a b (inl r) (inl s) =
-    once r.0 a b r.2 (subst (λ (bytes : List ℕ). Next bytes b) (sym (held_once file_of name limit r.0 s.0 r.1 s.1)) s.2)
-after_fetch_once file_of name limit Next once a b (inl r) (inr (inl s)) = absurd (held_not_lacking file_of name limit r.0 r.1 s.0)
-after_fetch_once file_of name limit Next once a b (inl r) (inr (inr s)) = absurd (held_not_longer file_of name limit r.0 r.1 s.0)
-after_fetch_once file_of name limit Next once a b (inr (inl r)) (inl s) = absurd (held_not_lacking file_of name limit s.0 s.1 r.0)
-after_fetch_once file_of name limit Next once a b (inr (inl r)) (inr (inl s)) = r.1 ∙ sym s.1
-after_fetch_once file_of name limit Next once a b (inr (inl r)) (inr (inr s)) = absurd (lacking_not_longer file_of name limit r.0 s.0)
-after_fetch_once file_of name limit Next once a b (inr (inr r)) (inl s) = absurd (held_not_longer file_of name limit s.0 s.1 r.0)
-after_fetch_once file_of name limit Next once a b (inr (inr r)) (inr (inl s)) = absurd (lacking_not_longer file_of name limit s.0 r.0)
-after_fetch_once file_of name limit Next once a b (inr (inr r)) (inr (inr s)) = r.1 ∙ sym s.1
+module _ (Alike : Due → Due → Type 0) (same : (a b : Due) → a ≡ b → Alike a b) where
+  pub after_fetch_once : (file_of : List ℕ → Option (List ℕ)) (name : List ℕ) (limit : ℕ) (Next : List ℕ → Due → Type 0) → ((bytes : List ℕ) → IsOnceBy Alike (Next bytes)) →
+      IsOnceBy Alike (AfterFetch (Some file_of) name limit Next)
+  after_fetch_once file_of name limit Next once a b (inl r) (inl s) =
+      once r.0 a b r.2 (subst (λ (bytes : List ℕ). Next bytes b) (sym (held_once file_of name limit r.0 s.0 r.1 s.1)) s.2)
+  after_fetch_once file_of name limit Next once a b (inl r) (inr (inl s)) = absurd (held_not_lacking file_of name limit r.0 r.1 s.0)
+  after_fetch_once file_of name limit Next once a b (inl r) (inr (inr s)) = absurd (held_not_longer file_of name limit r.0 r.1 s.0)
+  after_fetch_once file_of name limit Next once a b (inr (inl r)) (inl s) = absurd (held_not_lacking file_of name limit s.0 s.1 r.0)
+  after_fetch_once file_of name limit Next once a b (inr (inl r)) (inr (inl s)) = same a b (r.1 ∙ sym s.1)
+  after_fetch_once file_of name limit Next once a b (inr (inl r)) (inr (inr s)) = absurd (lacking_not_longer file_of name limit r.0 s.0)
+  after_fetch_once file_of name limit Next once a b (inr (inr r)) (inl s) = absurd (held_not_longer file_of name limit s.0 s.1 r.0)
+  after_fetch_once file_of name limit Next once a b (inr (inr r)) (inr (inl s)) = absurd (lacking_not_longer file_of name limit s.0 r.0)
+  after_fetch_once file_of name limit Next once a b (inr (inr r)) (inr (inr s)) = same a b (r.1 ∙ sym s.1)
 
-pub after_problem_once : (bytes : List ℕ) (Next : Problem → Due → Type 0) → ((p : Problem) → Reads bytes p → IsOnce (Next p)) → IsOnce (AfterProblem bytes Next)
-after_problem_once bytes Next once a b (inl r) (inl s) = r.2 ∙ ap (λ f. ends (Refused (fault.File f))) (refused_once bytes r.0 s.0 r.1 s.1) ∙ sym s.2
-after_problem_once bytes Next once a b (inl r) (inr s) = absurd (not_refused_and_read bytes r.0 s.0 r.1 s.1)
-after_problem_once bytes Next once a b (inr r) (inl s) = absurd (not_refused_and_read bytes s.0 r.0 s.1 r.1)
-after_problem_once bytes Next once a b (inr r) (inr s) =
-    let is = subst (λ (p : Problem). Next p b) (sym (read_once bytes r.0 s.0 r.1 s.1)) s.2 in
-    once r.0 r.1 a b r.2 is
+  pub after_problem_once : (bytes : List ℕ) (Next : Problem → Due → Type 0) → ((p : Problem) → Reads bytes p → IsOnceBy Alike (Next p)) → IsOnceBy Alike (AfterProblem bytes Next)
+  after_problem_once bytes Next once a b (inl r) (inl s) = same a b (r.2 ∙ ap (λ f. ends (Refused (fault.File f))) (refused_once bytes r.0 s.0 r.1 s.1) ∙ sym s.2)
+  after_problem_once bytes Next once a b (inl r) (inr s) = absurd (not_refused_and_read bytes r.0 s.0 r.1 s.1)
+  after_problem_once bytes Next once a b (inr r) (inl s) = absurd (not_refused_and_read bytes s.0 r.0 s.1 r.1)
+  after_problem_once bytes Next once a b (inr r) (inr s) =
+      let is = subst (λ (p : Problem). Next p b) (sym (read_once bytes r.0 s.0 r.1 s.1)) s.2 in
+      once r.0 r.1 a b r.2 is
 
 -- ---- commands
 
@@ -111,7 +118,7 @@ verdict_once P C a b (inr r) (inr s) =
 
 check_once_due : (file_of : List ℕ → Option (List ℕ)) (name : List ℕ) (p : Problem) → IsLayout (residues p.order) p.complex → IsOnce (CheckIsDue (Some file_of) name p)
 check_once_due file_of name p laws =
-    after_fetch_once file_of name certificate_limit (λ bytes. AfterCertificate (residues p.order) p.complex bytes (VerdictIsDue (in_full p))) (λ bytes. certificate_once bytes)
+    after_fetch_once (λ a b. a ≡ b) (λ a b e. e) file_of name certificate_limit (λ bytes. AfterCertificate (residues p.order) p.complex bytes (VerdictIsDue (in_full p))) (λ bytes. certificate_once bytes)
   where
     certificate_once : (bytes : List ℕ) → IsOnce (AfterCertificate (residues p.order) p.complex bytes (VerdictIsDue (in_full p)))
     certificate_once bytes a b (inl r) (inl s) = r.2 ∙ ap (λ f. ends (Refused (fault.Cert f))) (certificates.refused_once (residues p.order) p.complex bytes r.0 s.0 r.1 s.1) ∙ sym s.2
@@ -121,13 +128,46 @@ check_once_due file_of name p laws =
         let same = certificates.read_once (residues p.order) p.complex laws bytes r.0 s.0 r.1 s.1 in
         verdict_once (in_full p) r.0 a b r.2 (subst (λ (C : Certificate). VerdictIsDue (in_full p) C b) (sym same) s.2)
 
-due_on_once : (verb : Verb) (file_of : List ℕ → Option (List ℕ)) (arguments : List (List ℕ)) (bytes : List ℕ) (p : Problem) → Reads bytes p → IsOnce (IsDueOn verb (Some file_of) arguments p)
-due_on_once Classes file_of arguments bytes p reads a b r s = classes_once_due p a b r s
-due_on_once Morse file_of arguments bytes p reads a b r s = morse_once_due p (read_prime bytes p reads) a b r s
-due_on_once Check file_of arguments bytes p reads a b r s = let sound = read_sound bytes p reads in check_once_due file_of _ p sound.laws a b r s
+-- an analysis has the sets of the finest decomposition
+many_and_few : (p : Problem) (count : ℕ) → HasTooManySets (residues p.order) p.complex p.part_of count → (text : List ℕ) (analysis : IsAnalysisText (in_full p) text) → length analysis.certificate.morse ≤ 2000 → ⊥
+many_and_few p count many text analysis few =
+    let listed = analysis.analysis.graph in
+    let e = ap length (finest_once p.complex p.part_of many.1.0 listed.sets many.1.1 listed.graph.sets) in
+    omega (arith, e, many.0, many.1.2, listed.sets_count, few)
 
-pub due_once : (file_of : List ℕ → Option (List ℕ)) (command : Option Command) → IsOnce (IsDue (Some file_of) command)
-due_once file_of None a b r s = r ∙ sym s
-due_once file_of (Some command) a b r s =
+-- more sets than are printed, or the text of an analysis
+analysis_alike : (p : Problem) → IsOnceBy AreAlike (AnalysisIsDue p)
+analysis_alike p a b (inl r) (inl s) =
+    let e = ap length (finest_once p.complex p.part_of r.1.1.0 s.1.1.0 r.1.1.1 s.1.1.1) in
+    inl (r.2 ∙ ap (λ n. ends (Refused (fault.Morse n))) (sym r.1.1.2 ∙ e ∙ s.1.1.2) ∙ sym s.2)
+analysis_alike p a b (inl r) (inr s) = absurd (many_and_few p r.0 r.1 s.0 s.1 s.2)
+analysis_alike p a b (inr r) (inl s) = absurd (many_and_few p s.0 s.1 r.0 r.1 r.2)
+analysis_alike p a b (inr r) (inr s) = inr (p, r, s)
+
+-- ---- all commands
+
+due_on_once : (verb : Verb) (file_of : List ℕ → Option (List ℕ)) (arguments : List (List ℕ)) (bytes : List ℕ) (p : Problem) → ¬ (verb ≡ Analyze) → Reads bytes p → IsOnce (IsDueOn verb (Some file_of) arguments p)
+due_on_once Classes file_of arguments bytes p other reads a b r s = classes_once_due p a b r s
+due_on_once Morse file_of arguments bytes p other reads a b r s = morse_once_due p (read_prime bytes p reads) a b r s
+due_on_once Analyze file_of arguments bytes p other reads a b r s = absurd (other refl)
+due_on_once Check file_of arguments bytes p other reads a b r s = let sound = read_sound bytes p reads in check_once_due file_of _ p sound.laws a b r s
+
+due_on_alike : (verb : Verb) (file_of : List ℕ → Option (List ℕ)) (arguments : List (List ℕ)) (bytes : List ℕ) (p : Problem) → Reads bytes p → IsOnceBy AreAlike (IsDueOn verb (Some file_of) arguments p)
+due_on_alike Classes file_of arguments bytes p reads a b r s = inl (classes_once_due p a b r s)
+due_on_alike Morse file_of arguments bytes p reads a b r s = inl (morse_once_due p (read_prime bytes p reads) a b r s)
+due_on_alike Analyze file_of arguments bytes p reads a b r s = analysis_alike p a b r s
+due_on_alike Check file_of arguments bytes p reads a b r s = let sound = read_sound bytes p reads in inl (check_once_due file_of _ p sound.laws a b r s)
+
+pub due_once : (file_of : List ℕ → Option (List ℕ)) (command : Option Command) → ¬ Analyzes command → (a b : Due) → IsDue (Some file_of) command a → IsDue (Some file_of) command b → a ≡ b
+due_once file_of None other a b r s = r ∙ sym s
+due_once file_of (Some command) other a b r s =
     let on = IsDueOn command.verb (Some file_of) command.arguments in
-    after_fetch_once file_of _ _ (λ bytes. AfterProblem bytes on) (λ bytes. after_problem_once bytes on (due_on_once command.verb file_of command.arguments bytes)) a b r s
+    let same = λ (x y : Due). x ≡ y in
+    after_fetch_once same (λ x y e. e) file_of _ _ (λ bytes. AfterProblem bytes on) (λ bytes. after_problem_once same (λ x y e. e) bytes on (λ p. due_on_once command.verb file_of command.arguments bytes p other)) a b r s
+
+pub due_alike : (file_of : List ℕ → Option (List ℕ)) (command : Option Command) (a b : Due) → IsDue (Some file_of) command a → IsDue (Some file_of) command b → AreAlike a b
+due_alike file_of None a b r s = inl (r ∙ sym s)
+due_alike file_of (Some command) a b r s =
+    let on = IsDueOn command.verb (Some file_of) command.arguments in
+    let same : (x y : Due) → x ≡ y → AreAlike x y = λ x y e. inl e in
+    after_fetch_once AreAlike same file_of _ _ (λ bytes. AfterProblem bytes on) (λ bytes. after_problem_once AreAlike same bytes on (due_on_alike command.verb file_of command.arguments bytes)) a b r s

@@ -1,6 +1,5 @@
 -- What is due for `check FILE CERT`.
 --     certificate_limit                          the most bytes of a certificate
---     in_full problem                            the problem with its scalars, as an analysis has it
 --     VerdictIsDue P C what                      an analysis is accepted, and nothing else is: then the first law that fails is told
 --     AfterCertificate F c bytes Next what       the bytes are refused; what is due of the certificate that they stand for
 --     CheckIsDue files name problem what         what is due of the certificate in a file
@@ -20,15 +19,13 @@ use Rattle.conley_certificate.specs.declared.reason.Reason.{Reason}
 use Rattle.conley_input.specs.Problem.{Problem}
 use Rattle.conley_tool.specs.Due.{Due, ends, accepts}
 use Rattle.conley_tool.specs.Fetches.{AfterFetch}
+use Rattle.conley_tool.specs.Analyze.{in_full}
 use Rattle.conley_tool.specs.declared.outcome.Fault.TheVariants.{Cert}
 use Rattle.conley_tool.specs.declared.outcome.Outcome.TheVariants.{Refused, Rejected}
 
 -- 128 MiB
 abbrev pub certificate_limit : ℕ
 certificate_limit = 134217728
-
-abbrev pub in_full : Problem → certificate.Problem
-in_full problem = certificate.problem_of (residues problem.order) problem.complex problem.part_of
 
 abbrev pub VerdictIsDue : certificate.Problem → Certificate → Due → Type 0
 VerdictIsDue P C what =

@@ -2,8 +2,9 @@
 --     IsDueOn verb problem what        what is due of a problem: a line a command
 --     IsDueOf files command what       what is due for a command
 --     IsDue files command what         what is due for words that name a command or none: a relation, since walks decide
---     IsDueFor files words what        the same for the words themselves
--- At most one thing is due where files are told. Fetches.antt has the steps that every command begins with, Outcomes.antt the causes of outcomes,
+--     Analyzes command                 the command is `analyze`
+--     IsDueFor files words what        what is due for the words themselves
+-- Where files are told, at most one thing is due, but for `analyze`, where several texts can be. Fetches.antt has the steps that every command begins with, Outcomes.antt the causes of outcomes,
 -- and a module of its name what a command prints or refuses.
 -- The wording is this project's own.
 use Rattle.std.specs.Prelude.{◌≡◌, ℕ, List, [], map, slice_index_or, Option, Some, None, string_bytes}
@@ -16,15 +17,17 @@ use Rattle.conley_tool.specs.Words.{Command, command_of}
 use Rattle.conley_tool.specs.Fetches.{OnProblem}
 use Rattle.conley_tool.specs.Classes.{ClassesAreDue}
 use Rattle.conley_tool.specs.Morse.{MorseIsDue}
+use Rattle.conley_tool.specs.Analyze.{AnalysisIsDue}
 use Rattle.conley_tool.specs.Check.{CheckIsDue}
 use Rattle.conley_tool.specs.declared.words.Verb.{Verb}
-use Rattle.conley_tool.specs.declared.words.Verb.TheVariants.{Classes, Morse, Check}
+use Rattle.conley_tool.specs.declared.words.Verb.TheVariants.{Classes, Morse, Analyze, Check}
 use Rattle.conley_tool.specs.declared.outcome.Outcome.TheVariants.{Usage}
 
 -- with the files and the arguments, for commands that need more than the problem
 abbrev pub IsDueOn : Verb → Files → List (List ℕ) → Problem → Due → Type 0
 IsDueOn Classes files arguments problem what = ClassesAreDue problem what
 IsDueOn Morse files arguments problem what = MorseIsDue problem what
+IsDueOn Analyze files arguments problem what = AnalysisIsDue problem what
 IsDueOn Check files arguments problem what = CheckIsDue files (slice_index_or arguments 1 []) problem what
 
 -- the first argument names the file of a problem
@@ -34,6 +37,11 @@ IsDueOf files command what = OnProblem files (slice_index_or command.arguments 0
 abbrev pub IsDue : Files → Option Command → Due → Type 0
 IsDue files None what = what ≡ ends Usage
 IsDue files (Some command) what = IsDueOf files command what
+
+-- the words ask for an analysis
+abbrev pub Analyzes : Option Command → Type 0
+Analyzes None = ⊥
+Analyzes (Some command) = command.verb ≡ Analyze
 
 abbrev pub IsDueFor : Files → List (String Global) → Due → Type 0
 IsDueFor files words what = IsDue files (command_of (map string_bytes words)) what

@@ -4,6 +4,7 @@ pub mod CommandMeaning
 pub mod Fetches
 pub mod Classes
 pub mod Morse
+pub mod Analyze
 pub mod Check
 pub mod Headline
 pub mod Line

@@ -5,7 +5,8 @@ ghost use Rattle.conley_outside.specs.Faults.{Rose};
 ghost use Rattle.conley_field.specs.Prime.{residues};
 ghost use Rattle.conley_input.specs.Problem.{IsSound};
 ghost use Rattle.conley_input.specs.ProblemMeaning.{meaning_of};
-ghost use Rattle.conley_tool.specs.Check.{in_full, VerdictIsDue, AfterCertificate, CheckIsDue};
+ghost use Rattle.conley_tool.specs.Analyze.{in_full};
+ghost use Rattle.conley_tool.specs.Check.{VerdictIsDue, AfterCertificate, CheckIsDue};
 ghost use Rattle.conley_tool.specs.Ends.{EndCause, due_of};
 
 use crate::answer::Answer;

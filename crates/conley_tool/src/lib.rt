@@ -4,6 +4,7 @@
 //! What a command prints or refuses stands in the spec module of its name, over the definitions of the crates below.
 #![tactic(auto)]
 
+mod analyze;
 mod answer;
 mod check;
 mod classes;

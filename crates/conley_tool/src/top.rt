@@ -14,6 +14,7 @@ ghost use Rattle.conley_tool.specs.Words.{arguments_of};
 ghost use Rattle.conley_tool.specs.Ends.{EndCause, due_of};
 
 use crate::Outcome;
+use crate::analyze::answer_analyze;
 use crate::answer::Answer;
 use crate::check::answer_check;
 use crate::classes::answer_classes;
@@ -43,6 +44,7 @@ fn answer_on<D: Depot>(
     match command.verb {
         Verb::Classes => answer_classes(alloc, problem),
         Verb::Morse => answer_morse(alloc, problem),
+        Verb::Analyze => answer_analyze(alloc, problem),
         Verb::Check => answer_check(alloc, problem, command.arguments[1].as_str(), depot),
     }
 }
@@ -88,6 +90,7 @@ fn outcome_of<D: Depot, O: Sink>(
 
 /// Runs the command that the words name: `classes FILE`, which prints the recurrence classes of the problem in FILE,
 /// `morse FILE`, which prints its Morse sets with their Conley indices, and the order of the sets,
+/// `analyze FILE`, which prints an analysis of it as a certificate: the Morse sets with a connection matrix, its maps and homotopies,
 /// or `check FILE CERT`, which tells whether the certificate in CERT is an analysis of the problem.
 /// Its text goes to `out`, and for any outcome but `Done` and `Accepted` one line to `err`; a fault of `err` changes no outcome.
 pub fn run<D: Depot, O: Sink, E: Sink>(

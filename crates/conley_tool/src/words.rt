@@ -12,12 +12,15 @@ pub(crate) enum Verb {
     Classes,
     /// Its Morse sets with their indices and their order.
     Morse,
+    /// An analysis of it, as a certificate.
+    Analyze,
     /// Whether a certificate is an analysis of it.
     Check,
 }
 
 /// The forms of all words, in the order of the verbs.
-pub(crate) const USAGE: &str = "usage: conley classes FILE | morse FILE | check FILE CERT\n";
+pub(crate) const USAGE: &str =
+    "usage: conley classes FILE | morse FILE | analyze FILE | check FILE CERT\n";
 
 /// A verb and its arguments.
 #[derive(Clone, Copy)]
@@ -33,6 +36,7 @@ fn verb_of(word: &str) -> Option<Verb>
     match word {
         "classes" => Some(Verb::Classes),
         "morse" => Some(Verb::Morse),
+        "analyze" => Some(Verb::Analyze),
         "check" => Some(Verb::Check),
         _ => None,
     }
@@ -44,7 +48,7 @@ fn argument_count(verb: Verb) -> usize
     ensures some { 0 < result }
 {
     match verb {
-        Verb::Classes | Verb::Morse => 1,
+        Verb::Classes | Verb::Morse | Verb::Analyze => 1,
         Verb::Check => 2,
     }
 }

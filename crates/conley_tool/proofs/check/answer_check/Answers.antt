@@ -3,7 +3,8 @@ use Rattle.std.proofs.lemmas.Result.{err_from_is_err_and}
 use Rattle.conley_outside.specs.Faults.{Rose}
 use Rattle.conley_field.specs.Prime.{residues}
 use Rattle.conley_input.specs.ProblemMeaning.{meaning_of}
-use Rattle.conley_tool.specs.Check.{certificate_limit, in_full, VerdictIsDue, AfterCertificate}
+use Rattle.conley_tool.specs.Analyze.{in_full}
+use Rattle.conley_tool.specs.Check.{certificate_limit, VerdictIsDue, AfterCertificate}
 use Rattle.conley_tool.specs.Ends.{EndCause}
 use Rattle.conley_tool.specs.Due.{Due}
 use Rattle.conley_tool.proofs.TopLemmas.{held_ends}
