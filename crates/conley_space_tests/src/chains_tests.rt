@@ -58,6 +58,20 @@ fn entries_in_any_order_make_one_matrix(rt: HostRuntime) -> Result<(), Fail> {
     Ok(())
 }
 
+#[test]
+fn a_matrix_without_entries(rt: HostRuntime) -> Result<(), Fail> {
+    let empty = Matrix::empty(rt.alloc(), 3, 2)?;
+    assert!(rt; empty.rows() == 3 && codes(&empty) == Some([0, 0, 0, 0]));
+    Ok(())
+}
+
+#[test]
+fn an_identity_has_ones(rt: HostRuntime) -> Result<(), Fail> {
+    let identity = Matrix::identity(rt.alloc(), &FIVE, 2)?;
+    assert!(rt; identity.rows() == 2 && codes(&identity) == Some([1, 0, 0, 1]));
+    Ok(())
+}
+
 /// The numbers of rows and columns of the part in the second row and the second column, and its code.
 fn part(alloc: Global) -> Result<(usize, usize, u8), MatrixError> {
     let matrix = Matrix::from_entries(alloc, &FIVE, 2, 2, &TWO)?;
@@ -144,6 +158,14 @@ fn a_chain_of_one_entry(rt: HostRuntime) -> Result<(), Fail> {
 fn a_chain_of_pairs(rt: HostRuntime) -> Result<(), Fail> {
     let pair = Chain::from_pairs(rt.alloc(), &[(7, Scalar::of(1))])?;
     assert!(rt; is(&pair, &[(7, 1)]));
+    Ok(())
+}
+
+#[test]
+fn a_chain_of_a_row_of_codes(rt: HostRuntime) -> Result<(), Fail> {
+    let row = [Scalar::of(0), Scalar::of(3), Scalar::of(0), Scalar::of(1)];
+    let chain = Chain::from_row(rt.alloc(), &row)?;
+    assert!(rt; is(&chain, &[(1, 3), (3, 1)]));
     Ok(())
 }
 

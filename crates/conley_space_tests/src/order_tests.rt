@@ -2,7 +2,10 @@ ghost use Rattle.std.specs.Prelude.{◌≡◌, [], ◌∷◌, IfOk};
 ghost use Rattle.conley_walk.specs.Lists.{items_of};
 ghost use Rattle.conley_order.specs.ClassRows.{ClassRows};
 
-use conley_order::{Grading, ReachRows, is_next, lower_rows, lower_still, same, words_of};
+use conley_order::{
+    Grading, ReachRows, has_bit, is_next, join_row, lower_rows, lower_still, same, set_bit,
+    words_of,
+};
 use std::alloc::{AllocError, Global};
 use std::test::Fail;
 
@@ -73,4 +76,12 @@ fn marks_past_the_first_word_stand_in_the_next(rt: HostRuntime) -> Result<(), Fa
     marks[69] = true;
     assert!(rt; words_of(rt.alloc(), &marks)?.as_slice() == [2, 32].as_slice());
     Ok(())
+}
+
+#[test]
+fn bits_are_set_and_joined(rt: HostRuntime) {
+    let mut words = [2u64, 0];
+    set_bit(words.as_mut_slice(), 69);
+    join_row(words.as_mut_slice(), &[4, 1]);
+    assert!(rt; words == [6, 33] && has_bit(words.as_slice(), 69) && !has_bit(words.as_slice(), 0));
 }
