@@ -21,7 +21,7 @@ loop-k-preserved c =
     let C = meaning_of c.args.certificate.now in
     let below : c.loop-k.k < length C.order = grind (arith, common_steps, c.len-k-end.ensures, c.loop-k-test.true) in
     listed_more C c.loop-k.k (items_of c.loop-k.lists.items) (items_of c.put_under.new.lists.items) c.index-pair.result.now c.loop-k.invariant below
-    (c.index-pair.ensures ∙ get_or_default C.order c.loop-k.k c.index-pair.result.now (0, 0) below) c.in_ok-put_under.ensures
+    (c.index-pair.ensures ∙ get_or_default C.order c.loop-k.k c.index-pair.result.now (0, 0) below) c.in_ok-put_under.ensures.puts
 
 pub returns : goal.returns
 returns c =
