@@ -80,12 +80,12 @@ pub(crate) const REFUSED: [Row; 32] = [
         "",
         "refused E2 7\n",
     ),
-    // Simplices.
+    // A simplex with a vertex twice.
     (
-        "{\"version\":1,\"scalars\":2,\"complex\":{\"kind\":\"simplicial\",\"vertices\":[\"a\"],\"simplices\":[[0]]},\"field\":{\"kind\":\"whole\",\"parts\":[]}}",
+        "{\"version\":1,\"scalars\":2,\"complex\":{\"kind\":\"simplicial\",\"vertices\":[\"a\"],\"simplices\":[[0,0]]},\"field\":{\"kind\":\"whole\",\"parts\":[]}}",
         1,
         "",
-        "refused E0\n",
+        "refused E8 1 0\n",
     ),
     // A hull, and an order of no field.
     (
