@@ -1,18 +1,15 @@
 -- The vertices of a listed simplex, noted one after another.
-use Rattle.std.proofs.Common.{◌≡◌, ◌≢◌, inl, inr, ◌+◌, ◌<◌, ◌≤◌, ℕ, List, [], ◌∷◌, ◌++◌, Bool, true, false, nat_eq, Some, None, length, take, drop, get_or, refl, sym, ◌∙◌, ap, subst, arith, cond}
+use Rattle.std.proofs.Common.{◌≡◌, ◌≢◌, inl, inr, ◌+◌, ◌<◌, ◌≤◌, ℕ, List, [], ◌∷◌, ◌++◌, Bool, true, false, nat_eq, length, take, get_or, refl, sym, ◌∙◌, ap, subst, arith, cond}
 use Rattle.std.specs.Prelude.{All, Contains, not}
 use Rattle.std.specs.List.{AllPairs, list_any}
 use Rattle.std.proofs.lemmas.Bool.{or_cases, or_left, or_right, false≢true, true≢false, eqb-true, eq-eqb}
-use Rattle.std.proofs.lemmas.List.{get_or_default, get_or-take, length-take-le, take_more, take_all, take-append-drop, drop_more}
+use Rattle.std.proofs.lemmas.List.{get_or_default, get_or-take, length-take-le, take_more, take_all}
 use Rattle.std.proofs.lemmas.List.Elements.{All-push}
 use Rattle.std.proofs.lemmas.List.Quantifiers.{all_pairs_push}
 use Rattle.conley_walk.proofs.ContainsLemmas.{Contains-rest, Contains-cases}
 use Rattle.conley_generated.proofs.CellLemmas.{Contains-empty}
 use Rattle.conley_simplicial.specs.Fault.{IsBadSimplex}
-use Rattle.conley_simplicial.specs.Making.{NotesVertex, FindsEqual}
-use Rattle.conley_lefschetz.specs.Fault.{IsDuplicate}
-use Rattle.conley_lefschetz.specs.Making.{NumbersLabel}
-use Rattle.conley_lefschetz.proofs.LabelLemmas.{distinct_push, duplicate_first}
+use Rattle.conley_simplicial.specs.Making.{NotesVertex}
 
 tested : (keys : List ℕ) (v : ℕ) → list_any (nat_eq v) keys ≡ true → Contains keys v
 tested [] v e = absurd (false≢true e)
@@ -76,21 +73,3 @@ module _ (n : ℕ) (list : List ℕ) where
           | inr beyond ↦ let below = subst (λ l. All (λ v. v < n) l) whole good.below beyond.0 0 beyond.1 in absurd (omega (arith, below, beyond.2))
         ]
       ]
-
--- ---- labels numbered one after another
-
-module _ (labels : List (List ℕ)) (j : ℕ) (lt : j < length labels) (distinct : (h i : ℕ) → ¬ IsDuplicate (take j labels) h i) where
-  pub equal_found : (old : List (List ℕ)) (label : List ℕ) (new : List (List ℕ)) (i : ℕ) → old ≡ take j labels → label ≡ get_or labels j [] → NumbersLabel old new label (Some i) → FindsEqual labels (Some (i, j))
-  equal_found old label new i are is n =
-      let whole : labels ≡ take j labels ++ get_or labels j [] ∷ drop (j + 1) labels = sym (take-append-drop j labels) ∙ ap (λ l. take j labels ++ l) (drop_more labels j [] lt) in
-      let count : length (take j labels) ≡ j = length-take-le j labels (omega (arith, lt)) in
-      let m : NumbersLabel (take j labels) new (get_or labels j []) (Some i) = subst (λ (l : List ℕ). NumbersLabel (take j labels) new l (Some i)) is (subst (λ (o : List (List ℕ)). NumbersLabel o new label (Some i)) are n) in
-      subst (λ k. FindsEqual labels (Some (i, k))) count (duplicate_first (take j labels) (get_or labels j []) distinct labels (drop (j + 1) labels) whole i m)
-
-  pub none_equal : (old : List (List ℕ)) (label : List ℕ) (new : List (List ℕ)) → old ≡ take j labels → label ≡ get_or labels j [] → NumbersLabel old new label None → (new ≡ take (j + 1) labels) × ((h i : ℕ) → ¬ IsDuplicate (take (j + 1) labels) h i)
-  none_equal old label new are is n =
-      let more = take_more labels j [] lt in
-      let m : NumbersLabel (take j labels) new (get_or labels j []) None = subst (λ (l : List ℕ). NumbersLabel (take j labels) new l None) is (subst (λ (o : List (List ℕ)). NumbersLabel o new label None) are n) in (
-        m.0 ∙ sym more,
-        subst (λ (l : List (List ℕ)). (h i : ℕ) → ¬ IsDuplicate l h i) (sym more) (distinct_push (take j labels) (get_or labels j []) distinct m.1),
-      )
