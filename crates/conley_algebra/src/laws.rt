@@ -17,15 +17,3 @@ pub fn bases_have_one_length<F: Field>(field: &F)
         IsHomologyBasis (F.arithmetic field.now) n boundary dim (λ x. IsTrue (closure x)) (λ x. IsTrue (mouth x)) k r z →
         IsHomologyBasis (F.arithmetic field.now) n boundary dim (λ x. IsTrue (closure x)) (λ x. IsTrue (mouth x)) k s w → r ≡ s }
 {}
-
-#[cfg(test)]
-mod tests {
-    use super::*;
-    use conley_field::PrimeField;
-
-    #[test]
-    fn laws_hold_of_a_field_of_the_table() {
-        wide_matrices_have_kernels(&PrimeField::Two);
-        bases_have_one_length(&PrimeField::Two);
-    }
-}

@@ -14,3 +14,4 @@ pub mod CodeLemmas
 pub mod EntriesLemmas
 pub mod RunLemmas
 pub mod TransposeLemmas
+pub mod RowLemmas

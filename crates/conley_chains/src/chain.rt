@@ -271,7 +271,7 @@ impl Chain {
 }
 
 /// `by` times a scalar, with no product where `by` is one.
-fn times<F: Field>(field: &F, by: Scalar, scalar: Scalar) -> Scalar
+pub(crate) fn times<F: Field>(field: &F, by: Scalar, scalar: Scalar) -> Scalar
     requires by_below { by < (F.arithmetic field.now).order }
     requires below { scalar < (F.arithmetic field.now).order }
     ensures { result ≡ (F.arithmetic field.now).mul by scalar }

@@ -6,12 +6,11 @@
 #![tactic(auto)]
 
 mod chain;
+mod codes;
 mod error;
 mod laws;
 mod matrix;
 mod placing;
-#[cfg(test)]
-mod tests;
 mod transposing;
 
 pub use chain::Chain;

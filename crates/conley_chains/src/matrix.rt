@@ -1,6 +1,7 @@
 ghost use Rattle.std.specs.Prelude.{◌≡◌, ◌≢◌, ◌<◌, ◌≤◌, ◌==◌, ◌-◌, [], All, AllPairs, map, IfOk, IfErr, OnOk, OnErr, ℕ, ◌^◌, length, slice_index_or};
 ghost use Rattle.std.specs.List.Sorted.{IsStrictlyIncreasing};
 ghost use Rattle.conley_field.specs.Arithmetic.{Arithmetic};
+ghost use Rattle.conley_algebra.specs.Entries.{identity_of};
 ghost use Rattle.conley_chains.specs.Chain.{coefficient, IsChain, HasCodes};
 ghost use Rattle.conley_chains.specs.Faults.{fault_within, code_at, IsFaultless, IsFirstFault};
 ghost use Rattle.conley_chains.specs.Sums.{IsImage, IsProduct, IsMatrixSum, AddsColumn, IsMatrixPart};
@@ -72,6 +73,31 @@ impl Matrix {
             row_count: rows,
             kept: columns,
         }
+    }
+
+    /// The matrix of this size without entries.
+    pub fn empty(alloc: Global, rows: usize, columns: usize) -> Result<Matrix, NoMemory>
+        ensures entries { IfOk result (λ matrix. (row column : ℕ) → entry matrix row column ≡ 0) }
+        ensures table { IfOk result (λ matrix. (K : Arithmetic) → IsTable K rows columns matrix) }
+    {
+        let mut kept = Vec::new(alloc);
+        for turn in 0..columns {
+            kept.push(Chain::new(alloc))?;
+        }
+        Ok(Matrix::from_columns(rows, kept))
+    }
+
+    /// The identity with `n` rows.
+    pub fn identity<F: Field>(alloc: Global, field: &F, n: usize) -> Result<Matrix, NoMemory>
+        requires { n ≤ 2 ^ 32 }
+        ensures entries { IfOk result (λ matrix. (row column : ℕ) → entry matrix row column ≡ identity_of n row column) }
+        ensures table { IfOk result (IsTable (F.arithmetic field.now) n n) }
+    {
+        let mut kept = Vec::new(alloc);
+        for i in 0..n {
+            kept.push(Chain::from_pairs(alloc, &[(i as u32, field.one())])?)?;
+        }
+        Ok(Matrix::from_columns(n, kept))
     }
 
     /// The number of rows. It takes no memory.

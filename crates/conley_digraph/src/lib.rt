@@ -3,7 +3,6 @@
 //! Open specs/Heads.antt for what a digraph keeps and specs/Classes.antt for classes. Walks and reach are those of conley_walk, rows of bits those of conley_order.
 #![tactic(auto)]
 
-mod bits;
 mod digraph;
 mod error;
 mod numbering;
@@ -18,6 +17,3 @@ pub use turning::turned_round;
 
 /// Want of memory.
 pub type NoMemory = std::alloc::AllocError;
-
-#[cfg(test)]
-mod tests;

@@ -5,7 +5,7 @@ ghost use Rattle.conley_walk.specs.Lists.{items_of, IsDigraph};
 ghost use Rattle.conley_digraph.specs.Classes.{AreClasses};
 ghost use Rattle.conley_digraph.specs.Rows.{IsClosingOrder, IsRowOf, HaveRows, IsRowSoFar, JoinsHeads, AreRowsOf};
 
-use crate::bits::{has_bit, join, set_bit};
+use conley_order::{has_bit, join_row, set_bit};
 use conley_walk::gathered;
 use std::alloc::{AllocError, Global};
 
@@ -21,9 +21,9 @@ fn join_heads(row: &mut [u64], steps: &[Vec<u32>], class_of: &[u32], rows: &[Vec
     ensures heads { JoinsHeads row.old row.new class_of.now (slice_index_or (items_of steps.now) x []) }
 {
     for y in &steps[x as usize] {
-        let class = class_of[*y as usize];
+        let class = class_of[*y as usize] as usize;
         if !has_bit(row, class) {
-            join(row, &rows[class as usize]);
+            join_row(row, &rows[class]);
         }
     }
 }
@@ -46,7 +46,7 @@ fn row_of(
     ensures { IfOk result (λ row. (x : ℕ) → x < length steps.now → slice_index class_of.now x ≡ class → IsRowOf (items_of steps.now) class_of.now (length rows.now) x row.items) }
 {
     let mut row = vec![in alloc; 0u64; rows.len() / 64 + 1]?;
-    set_bit(&mut row, class);
+    set_bit(&mut row, class as usize);
     for x in members {
         join_heads(&mut row, steps, class_of, rows, *x);
     }

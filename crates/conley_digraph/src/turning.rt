@@ -1,23 +1,11 @@
 //! Digraphs turned round.
 
-ghost use Rattle.std.specs.Prelude.{◌≡◌, ◌<◌, ◌^◌, ℕ, [], All, IfOk, OnOk, length, slice_index_or};
+ghost use Rattle.std.specs.Prelude.{◌<◌, ◌^◌, All, IfOk, OnOk, length};
 ghost use Rattle.conley_walk.specs.Lists.{items_of, IsDigraph};
 ghost use Rattle.conley_digraph.specs.Turning.{PutsUnderEach, IsTurnedRound};
 
-use conley_walk::put_under;
+use conley_walk::{empty_lists, put_under};
 use std::alloc::{AllocError, Global};
-
-/// This many lists without numbers.
-fn empty_lists(alloc: Global, count: usize) -> Result<Vec<Vec<u32>>, AllocError>
-    ensures count { IfOk result (λ lists. length lists.items ≡ count) }
-    ensures empty { IfOk result (λ lists. (x : ℕ) → slice_index_or (items_of lists.items) x [] ≡ []) }
-{
-    let mut lists = Vec::new(alloc);
-    for turn in 0..count {
-        lists.push(Vec::new(alloc))?;
-    }
-    Ok(lists)
-}
 
 /// Puts x at the end of the list of each head.
 fn put_under_each(lists: &mut Vec<Vec<u32>>, heads: &[u32], x: u32) -> Result<(), AllocError>

@@ -8,7 +8,7 @@ ghost use Rattle.conley_faces.specs.Closures.{IsMade, IsInListOf, AreClosuresSoF
 
 use crate::NoMemory;
 use crate::lists::{marked, unmark};
-use conley_walk::{ordered, reached_from};
+use conley_walk::{empty_lists, ordered, reached_from};
 use std::alloc::Global;
 
 /// Whether the closures of all these cells are made.
@@ -102,18 +102,6 @@ fn make_all(
         }
     }
     Ok(going)
-}
-
-/// This many lists without numbers.
-fn empty_lists(alloc: Global, count: usize) -> Result<Vec<Vec<u32>>, NoMemory>
-    ensures count { IfOk result (λ lists. length lists.items ≡ count) }
-    ensures empty { IfOk result (λ lists. (x : ℕ) → slice_index_or (items_of lists.items) x [] ≡ []) }
-{
-    let mut lists = Vec::new(alloc);
-    for turn in 0..count {
-        lists.push(Vec::new(alloc))?;
-    }
-    Ok(lists)
 }
 
 /// The closure of each cell for which it can be made, else an empty list.

@@ -13,6 +13,3 @@ pub use faces::Faces;
 
 /// Want of memory.
 pub type NoMemory = std::alloc::AllocError;
-
-#[cfg(test)]
-mod tests;

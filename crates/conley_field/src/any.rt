@@ -5,7 +5,7 @@ ghost use Rattle.conley_field.specs.AnyField.{arithmetic_of, arithmetic_of-IsFie
 use crate::{Field, PrimeField, Scalar};
 
 /// Any field of the table: its calls are those of the field that it holds.
-#[derive(Clone, Copy, Debug, PartialEq, Eq)]
+#[derive(Clone, Copy, PartialEq, Eq)]
 pub enum AnyField {
     Prime(PrimeField),
 }

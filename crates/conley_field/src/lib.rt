@@ -9,8 +9,6 @@ mod any;
 mod field;
 mod prime;
 mod scalar;
-#[cfg(test)]
-mod tests;
 
 pub use any::AnyField;
 pub use field::Field;

@@ -5,7 +5,7 @@ ghost use Rattle.conley_field.specs.PrimeField.{order_of, order_of-IsField};
 use crate::{Field, Scalar};
 
 /// The residues modulo a prime of the table: 2, 3, 5, 7, 11, 13, 17, 19, 23, 29 or 31.
-#[derive(Clone, Copy, Debug, PartialEq, Eq)]
+#[derive(Clone, Copy, PartialEq, Eq)]
 pub enum PrimeField {
     Two,
     Three,

@@ -141,15 +141,15 @@ module _ {F : Arithmetic} (laws : IsField F) (m : Table) (dims set : List ℕ) (
     pub column : IsColumn F (column_count m) (own_entries m set) (dim_in dims) (place_in set) j (chain j) (vector_at reduced j)
     pub ends : EndsAt (place_in set) p (vector_at reduced j)
 
-  pub source : {keeps : Bool} (kept reduced : List (List (ℕ × ℕ))) (owner : List (Option ℕ)) (i p j : ℕ) (own_kept own_reduced : List (ℕ × ℕ))
+  pub source : {keeps : Bool} (kept reduced : List (List (ℕ × ℕ))) (owner : List (Option ℕ)) (i p j : ℕ) (v r : Vector)
       → (so_far : IsReducedSoFar F m dims set keeps (IsDone dims set (dim_in dims (place_in set i)) i) kept reduced owner)
-      → IsChainFor F m dims set keeps i own_kept own_reduced → EndsAt (place_in set) p (coefficient own_reduced) → p < length set → owner_at owner p ≡ Some j
+      → IsColumn F (column_count m) (own_entries m set) (dim_in dims) (place_in set) i v r → EndsAt (place_in set) p r → p < length set → owner_at owner p ≡ Some j
       → IsSource so_far.chain reduced i p j
-  source kept reduced owner i p j own_kept own_reduced so_far chains ends below is =
+  source kept reduced owner i p j v r so_far own ends below is =
       let o = so_far.owns p j below is in
       let column = so_far.column j o.0 o.1 o.2 in
       let level_j = column-level laws (column_count m) (own_entries m set) (dim_in dims) (place_in set) j (place_in set p) (so_far.chain j) (vector_at reduced j) complex.one_down column o.3.lead in
-      let level_i = column-level laws (column_count m) (own_entries m set) (dim_in dims) (place_in set) i (place_in set p) chains.chain (coefficient own_reduced) complex.one_down chains.column ends.lead in
+      let level_i = column-level laws (column_count m) (own_entries m set) (dim_in dims) (place_in set) i (place_in set p) v r complex.one_down own ends.lead in
       record {
         within = o.0;
         before = elim o.1 [ inl higher ↦ absurd (omega arith) | inr same ↦ same.1 ];

@@ -6,3 +6,4 @@ pub mod StateLemmas
 pub mod CollectedLemmas
 pub mod RelativeLemmas
 pub mod SingleLemmas
+pub mod RowLemmas

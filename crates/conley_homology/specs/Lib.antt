@@ -1,3 +1,4 @@
 pub mod Reduced
 pub mod Own
 pub mod Homology
+pub mod Row

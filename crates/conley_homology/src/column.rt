@@ -8,6 +8,7 @@ ghost use Rattle.conley_homology.specs.Own.{is_listed, own_entries, place_in, ow
 ghost use Rattle.conley_lefschetz.specs.Listing.{dim_in};
 
 use crate::NoMemory;
+use crate::row::reduced_as_row;
 use conley_chains::{Chain, Matrix};
 use conley_field::{Field, Scalar};
 use std::alloc::Global;
@@ -96,7 +97,7 @@ fn end_of(set: &[u32], chain: &Chain) -> usize
 }
 
 /// The owner of the place before the end.
-fn owner_of(owner: &[Option<u32>], end: usize) -> Option<u32>
+pub(crate) fn owner_of(owner: &[Option<u32>], end: usize) -> Option<u32>
     requires { end ≤ length owner.now }
     ensures some { IfSome result (λ j. (p : ℕ) × ((end ≡ p + 1) × (owner_at owner.now p ≡ Some j))) }
     ensures none { IfNone result ((p : ℕ) → end ≡ p + 1 → owner_at owner.now p ≡ None) }
@@ -130,7 +131,8 @@ fn first_kept<F: Field>(alloc: Global, field: &F, keeps: bool, cell: u32) -> Res
     Ok(Chain::from_pairs(alloc, &[(cell, field.one())])?)
 }
 
-/// The chain that ends at cell i of the set, with a boundary that ends where no other does.
+/// The chain that ends at cell i of the set, with a boundary that ends where no other does. Where the boundary has come to more entries
+/// than a sixteenth of the cells, it is reduced further as a row of codes.
 pub(crate) fn reduced_column<F: Field>(
     alloc: Global,
     field: &F,
@@ -152,6 +154,16 @@ pub(crate) fn reduced_column<F: Field>(
     let mut reduced = own_column(alloc, part.boundary, part.set, cell)?;
     let mut end = end_of(part.set, &reduced);
     while let Some(source) = owner_of(&columns.owner, end) {
+        if reduced.entries().len() > part.set.len() / 16 {
+            return reduced_as_row(
+                alloc,
+                field,
+                part,
+                columns,
+                i,
+                Column { kept, reduced, end },
+            );
+        }
         let other = &columns.reduced[source as usize];
         let by = multiple(field, &reduced, other, part.set[end - 1]);
         reduced = reduced.plus(alloc, field, by, other)?;

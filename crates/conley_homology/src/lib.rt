@@ -9,6 +9,7 @@ mod column;
 mod counting;
 mod cycles;
 mod elimination;
+mod row;
 
 pub use counting::numbers;
 pub use cycles::{Homology, relative};
@@ -16,6 +17,3 @@ use std::alloc::AllocError;
 
 /// Where there is no memory.
 pub type NoMemory = AllocError;
-
-#[cfg(test)]
-mod tests;

@@ -1,7 +1,7 @@
--- Reductions: the start, one pair more, and the same over the numbers of the large complex.
-use Rattle.std.proofs.Common.{◌≡◌, ◌≢◌, ℕ, ◌+◌, ◌<◌, ap, sym, ◌∙◌, refl, subst}
+-- Reductions: the start, one pair more, the same over the numbers of the large complex, and the same of other generators, bases and relations.
+use Rattle.std.proofs.Common.{◌≡◌, ◌≢◌, ℕ, ◌+◌, ◌<◌, ap, sym, ◌∙◌, refl, subst, arith}
 use Rattle.conley_field.specs.Arithmetic.{Arithmetic, IsField}
-use Rattle.conley_algebra.specs.Entries.{Entries, product_of, zero_entries}
+use Rattle.conley_algebra.specs.Entries.{Entries, product_of, zero_entries, identity_of}
 use Rattle.conley_homotopy.specs.Graded.{Generators, IsPreorder, IsGradedComplex}
 use Rattle.conley_homotopy.specs.Equivalence.{Maps, composed, identity_maps}
 use Rattle.conley_algebra.specs.Others.{other}
@@ -10,7 +10,8 @@ use Rattle.conley_homotopy.specs.Reduction.{IsReduction, IsPairStep, IsReducedTo
 use Rattle.conley_algebra.proofs.SumLemmas as sums
 use Rattle.conley_algebra.proofs.MatrixLemmas as matrices
 use Rattle.conley_algebra.proofs.MatrixLemmas.{entries_path}
-use Rattle.conley_homotopy.proofs.PairStepLemmas.{row_within, column_within, maps_path, step-IsPairStep}
+use Rattle.conley_homotopy.proofs.PairStepLemmas.{AreSameGenerators, row_within, column_within, complex-same, equivalence-same, maps_path, step-IsPairStep}
+use Rattle.conley_homotopy.proofs.RegradingLemmas.{wider-IsGradedComplex, wider-IsGradedEquivalence}
 use Rattle.conley_homotopy.proofs.ReductionLemmas.{identity-IsReduction, composed-IsReduction}
 use Rattle.conley_homotopy.proofs.UpdateLemmas.{composed-phi, composed-psi, composed-gamma}
 
@@ -92,3 +93,77 @@ module _ {F : Arithmetic} (laws : IsField F) {below : ℕ → ℕ → Type 0} (o
   reduction-in_place =
       reduction-composed laws order L S T (selected_maps kept phi psi gamma) steps (selected_maps (λ i. kept (other k q i)) phi' psi' gamma') reduction
       (reduction-pair laws order S reduction.complex k q unit under T steps is_step) are_composed
+
+-- a reduction to the same generators with the same maps
+module _ {F : Arithmetic} {below : ℕ → ℕ → Type 0} where
+  pub reduced-same : (L S T : Generators) (m l : Maps) → AreSameGenerators S T → m ≡ l → IsReducedTo F below L S m → IsReducedTo F below L T l
+  reduced-same L S T m l same is reduced = subst (IsReducedTo F below L T) is (record {
+    complex = complex-same S T same reduced.complex;
+    kept = reduced.kept;
+    reduction = record {
+      equivalence = equivalence-same L S T m same reduced.reduction.equivalence;
+      strong = λ row column. reduced.reduction.strong row column ∙ ap (λ n. identity_of n row column) same.count;
+      no_gamma2 = reduced.reduction.no_gamma2;
+      are_kept = record {
+        ascending = λ i j less within. reduced.reduction.are_kept.ascending i j less (omega (arith, within, same.count));
+        within = λ i within. reduced.reduction.are_kept.within i (omega (arith, within, same.count));
+        base = λ i within. (let w : i < S.count = omega (arith, within, same.count) in sym (same.base i w) ∙ reduced.reduction.are_kept.base i w);
+        dim = λ i within. (let w : i < S.count = omega (arith, within, same.count) in sym (same.dim i w) ∙ reduced.reduction.are_kept.dim i w);
+      };
+      phi_row = λ i within j. reduced.reduction.phi_row i (omega (arith, within, same.count)) j ∙ ap (λ n. identity_of n i j) same.count;
+      psi_column = λ i j within. reduced.reduction.psi_column i j (omega (arith, within, same.count)) ∙ ap (λ n. identity_of n i j) same.count;
+    };
+  })
+
+-- the same reduction where bases are told otherwise
+pub reduced-bases : {F : Arithmetic} {below : ℕ → ℕ → Type 0} (L : Generators) (base : ℕ → ℕ) (S : Generators) (m : Maps) → ((x : ℕ) → x < L.count → L.base x ≡ base x)
+    → IsReducedTo F below L S m → IsReducedTo F below (record { count = L.count; base = base; dim = L.dim; boundary = L.boundary }) S m
+reduced-bases {F} {below} L base S m same reduced =
+    let eq = reduced.reduction.equivalence in
+    record {
+      complex = reduced.complex;
+      kept = reduced.kept;
+      reduction = record {
+        equivalence = record {
+          phi_matrix = eq.phi_matrix;
+          psi_matrix = eq.psi_matrix;
+          gamma_matrix = eq.gamma_matrix;
+          gamma2_matrix = eq.gamma2_matrix;
+          phi_down = λ x g some. (let at = eq.phi_down x g some in (at.0, subst (λ b. below b (S.base g)) (same x (row_within eq.phi_matrix x g some)) at.1));
+          psi_down = λ g x some. (let at = eq.psi_down g x some in (at.0, subst (λ b. below (S.base g) b) (same x (column_within eq.psi_matrix g x some)) at.1));
+          gamma_down = λ y x some.
+              let at = eq.gamma_down y x some in
+              (at.0, subst (λ b. below b (base x)) (same y (row_within eq.gamma_matrix y x some)) (subst (λ b. below (L.base y) b) (same x (column_within eq.gamma_matrix y x some)) at.1));
+          gamma2_down = eq.gamma2_down;
+          phi_commutes = eq.phi_commutes;
+          psi_commutes = eq.psi_commutes;
+          phi_psi = eq.phi_psi;
+          psi_phi = eq.psi_phi;
+        };
+        strong = reduced.reduction.strong;
+        no_gamma2 = reduced.reduction.no_gamma2;
+        are_kept = record {
+          ascending = reduced.reduction.are_kept.ascending;
+          within = reduced.reduction.are_kept.within;
+          base = λ i within. reduced.reduction.are_kept.base i within ∙ same (reduced.kept i) (reduced.reduction.are_kept.within i within);
+          dim = reduced.reduction.are_kept.dim;
+        };
+        phi_row = reduced.reduction.phi_row;
+        psi_column = reduced.reduction.psi_column;
+      };
+    }
+
+-- the same over a relation that holds wherever the first one does
+pub wider-IsReducedTo : {F : Arithmetic} {below below' : ℕ → ℕ → Type 0} → ((a b : ℕ) → below a b → below' a b) → (L S : Generators) (m : Maps) → IsReducedTo F below L S m → IsReducedTo F below' L S m
+wider-IsReducedTo wider L S m reduced = record {
+  complex = wider-IsGradedComplex wider S reduced.complex;
+  kept = reduced.kept;
+  reduction = record {
+    equivalence = wider-IsGradedEquivalence wider L S m reduced.reduction.equivalence;
+    strong = reduced.reduction.strong;
+    no_gamma2 = reduced.reduction.no_gamma2;
+    are_kept = reduced.reduction.are_kept;
+    phi_row = reduced.reduction.phi_row;
+    psi_column = reduced.reduction.psi_column;
+  };
+}

@@ -23,17 +23,3 @@ pub fn grades_restrict<F: Field>(field: &F)
 pub fn own_bases_are_relative<F: Field>(field: &F)
     ensures { OwnBasesAreRelative (F.arithmetic field.now) }
 {}
-
-#[cfg(test)]
-mod tests {
-    use super::*;
-    use conley_field::PrimeField;
-
-    #[test]
-    fn laws_hold_of_a_field_of_the_table() {
-        equivalences_compose(&PrimeField::Three);
-        pairs_are_taken_out(&PrimeField::Three);
-        grades_restrict(&PrimeField::Three);
-        own_bases_are_relative(&PrimeField::Three);
-    }
-}

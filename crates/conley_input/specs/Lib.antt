@@ -4,6 +4,7 @@ pub mod Limits
 pub mod Listing
 pub mod RefusalOrder
 pub mod Refusals
+pub mod Told
 pub mod Places
 pub mod ListingMeaning
 pub mod Problem

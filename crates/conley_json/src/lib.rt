@@ -10,6 +10,3 @@ mod written;
 pub use form::{Form, member, object_member};
 pub use reading::{JsonError, read_json};
 pub use written::Written;
-
-#[cfg(test)]
-mod tests;

@@ -13,6 +13,3 @@ pub use error::MorseError;
 
 /// Want of memory.
 pub type NoMemory = std::alloc::AllocError;
-
-#[cfg(test)]
-mod tests;

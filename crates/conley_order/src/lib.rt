@@ -4,15 +4,14 @@
 //! Nothing is searched here: the rows are handed in.
 #![tactic(auto)]
 
+mod bits;
 mod grading;
 mod lower;
 mod reach_rows;
 mod words;
 
+pub use bits::{has_bit, join_row, set_bit};
 pub use grading::{Grading, same};
 pub use lower::{is_next, lower_rows, lower_still};
 pub use reach_rows::ReachRows;
 pub use words::words_of;
-
-#[cfg(test)]
-mod tests;

@@ -3,8 +3,9 @@
 ghost use Rattle.std.specs.Prelude.{◌≡◌, ◌≢◌, ◌*◌, ◌<◌, ◌≤◌, ◌^◌, ◌↔◌, ℕ, false, All, IfOk, IsTrue, length, slice_index_or};
 ghost use Rattle.conley_walk.specs.Lists.{items_of};
 ghost use Rattle.conley_order.specs.ClassRows.{word_bit};
-ghost use Rattle.conley_order.specs.LowerRows.{lower_by, AreLowerRows, JoinsRow, AreWide, IsLowerStill};
+ghost use Rattle.conley_order.specs.LowerRows.{lower_by, AreLowerRows, AreWide, IsLowerStill};
 
+use crate::bits::{has_bit, join_row};
 use crate::{Grading, words_of};
 use std::alloc::{AllocError, Global};
 
@@ -56,24 +57,6 @@ pub fn lower_rows<G: Grading>(
         lower.push(words_of(alloc, &marks)?)?;
     }
     Ok(lower)
-}
-
-/// Sets each bit that stands in the row.
-fn join_row(words: &mut Vec<u64>, row: &[u64])
-    requires { length words.old.items ≤ length row.now }
-    ensures { JoinsRow words.old.items words.new.items row.now }
-{
-    for k in 0..words.len() {
-        words[k] |= row[k];
-    }
-}
-
-/// Bit b of a row.
-fn has_bit(words: &[u64], b: usize) -> bool
-    requires { b < 64 * length words.now }
-    ensures { IsTrue result ↔ (word_bit words.now b ≡ 1) }
-{
-    (words[b / 64] >> (b % 64)) & 1 == 1
 }
 
 /// The bits of what is lower than something that is lower than p: the union of as many rows.

@@ -18,6 +18,3 @@ pub use system::{FileDepot, StreamSink};
 
 /// Want of memory.
 pub type NoMemory = std::alloc::AllocError;
-
-#[cfg(test)]
-mod tests;

@@ -1,4 +1,4 @@
-//! The program `conley`: `conley classes FILE` prints the recurrence classes of the problem in FILE.
+//! The program `conley`: it runs the command that its words name, over the system's files and streams, and ends with the status of the outcome.
 #![tactic(auto)]
 
 use conley_outside::{FileDepot, StreamSink};

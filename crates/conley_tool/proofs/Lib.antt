@@ -1,5 +1,3 @@
-pub mod SpacedLemmas
-pub mod PieceLemmas
-pub mod LineLemmas
+pub mod RangeLemmas
+pub mod TopLemmas
 pub mod OneDueLemmas
-pub mod RefusalLemmas

@@ -1,31 +1,84 @@
--- At most one thing is due
-use Rattle.std.proofs.Common.{◌≡◌, inl, inr, ◌<◌, ℕ, List, Option, Some, None, length, sym, ◌∙◌, ap, subst, arith}
-use Rattle.std.specs.Prelude.{flat_map}
-use Rattle.conley_outside.specs.Depot.{Files}
+-- At most one thing is due where files are told.
+use Rattle.std.proofs.Common.{◌≡◌, inl, inr, ◌<◌, ℕ, List, Option, Some, None, map, length, sym, ◌∙◌, ap, subst, arith}
+use Rattle.std.specs.Prelude.{IsSomeAnd}
+use Rattle.conley_outside.specs.Depot.{Lacks}
 use Rattle.conley_field.specs.Arithmetic.{IsField}
 use Rattle.conley_field.specs.Prime.{residues}
+use Rattle.conley_lefschetz.specs.Complex.{IsLayout}
 use Rattle.conley_lefschetz.specs.Conley.{AreConleyNumbers}
 use Rattle.conley_lefschetz.proofs.ConleyLemmas.{numbers_are_one}
+use Rattle.conley_texts.specs.Line.{text_of}
+use Rattle.conley_texts.specs.Words.{labels_of}
 use Rattle.conley_transitions.specs.Morse.{set_at}
 use Rattle.conley_transitions.proofs.ClassLemmas.{classes_once}
 use Rattle.conley_graph.specs.Covers.{AreCovers}
 use Rattle.conley_graph.specs.Decomposition.{field_of}
 use Rattle.conley_graph.proofs.OnceLemmas.{finest_once, covers_once, numbers_once}
 use Rattle.conley_input.specs.Problem.{Problem}
-use Rattle.conley_input.proofs.OnceLemmas.{refused_once, not_refused_and_read, read_once, read_prime}
-use Rattle.conley_tool.specs.Texts.{class_line}
-use Rattle.conley_tool.specs.MorseText.{MorseGraph, IsMorseGraphOf, morse_lines}
-use Rattle.conley_tool.specs.Words.{Command, on_file}
-use Rattle.conley_tool.specs.Headline.{Due, refused, prints, Fetched, held, ends, fetched, AfterFetch, AfterProblem, PrintsClasses, IsDueOn, IsDue}
+use Rattle.conley_input.specs.Problem.{Reads}
+use Rattle.conley_input.proofs.OnceLemmas.{refused_once, not_refused_and_read, read_once, read_prime, read_sound}
+use Rattle.conley_certificate_file.specs.Certificate.{Certificate}
+use Rattle.conley_certificate_file.proofs.OnceLemmas as certificates
+use Rattle.conley_certificate.specs.Problem as certificate
+use Rattle.conley_tool.specs.Due.{Due, ends, prints}
+use Rattle.conley_tool.specs.Words.{Command}
+use Rattle.conley_tool.specs.Fetches.{Holds, IsLonger, AfterFetch, AfterProblem}
+use Rattle.conley_tool.specs.Classes.{ClassesAreDue}
+use Rattle.conley_tool.specs.Morse.{MorseGraph, IsMorseGraphOf, morse_lines, MorseIsDue}
+use Rattle.conley_tool.specs.Check.{certificate_limit, in_full, VerdictIsDue, AfterCertificate, CheckIsDue}
+use Rattle.conley_tool.specs.Headline.{IsDueOn, IsDue}
 use Rattle.conley_tool.specs.declared.words.Verb.{Verb}
-use Rattle.conley_tool.specs.declared.words.Verb.TheVariants.{Classes, Morse}
-use Rattle.conley_tool.specs.declared.TheConstants.{FILE_LIMIT}
+use Rattle.conley_tool.specs.declared.words.Verb.TheVariants.{Classes, Morse, Check}
 use Rattle.conley_tool.specs.declared.outcome.Fault.TheVariants as fault
+use Rattle.conley_tool.specs.declared.outcome.Outcome.TheVariants.{Refused, Rejected}
 
-text_once : (p : Problem) (a b : Due) → PrintsClasses p a → PrintsClasses p b → a ≡ b
-text_once p a b r s =
+-- ---- steps: over any next step of which at most one thing is due
+
+-- at most one thing satisfies a sentence
+abbrev pub IsOnce : (Due → Type 0) → Type 0
+IsOnce Is = (a b : Due) → Is a → Is b → a ≡ b
+
+-- a told file has one list of bytes
+held_once : (file_of : List ℕ → Option (List ℕ)) (name : List ℕ) (limit : ℕ) (a b : List ℕ) → Holds (Some file_of) name limit a → Holds (Some file_of) name limit b → a ≡ b
+held_once file_of name limit a b r s = let e : Some a ≡ Some b = sym r.told ∙ s.told in cc
+
+-- the three ends of a fetch exclude each other
+held_not_lacking : (file_of : List ℕ → Option (List ℕ)) (name : List ℕ) (limit : ℕ) (bytes : List ℕ) → Holds (Some file_of) name limit bytes → Lacks (Some file_of) name → ⊥
+held_not_lacking file_of name limit bytes r s = let e : Some bytes ≡ None = sym r.told ∙ s in cc
+
+held_not_longer : (file_of : List ℕ → Option (List ℕ)) (name : List ℕ) (limit : ℕ) (bytes : List ℕ) → Holds (Some file_of) name limit bytes → IsLonger (Some file_of) name limit → ⊥
+held_not_longer file_of name limit bytes r s = let long = subst (λ (held : Option (List ℕ)). IsSomeAnd held (λ bytes. limit < length bytes)) r.told s in omega (arith, long, r.within)
+
+lacking_not_longer : (file_of : List ℕ → Option (List ℕ)) (name : List ℕ) (limit : ℕ) → Lacks (Some file_of) name → IsLonger (Some file_of) name limit → ⊥
+lacking_not_longer file_of name limit s t = subst (λ (held : Option (List ℕ)). IsSomeAnd held (λ bytes. limit < length bytes)) s t
+
+pub after_fetch_once : (file_of : List ℕ → Option (List ℕ)) (name : List ℕ) (limit : ℕ) (Next : List ℕ → Due → Type 0) → ((bytes : List ℕ) → IsOnce (Next bytes)) →
+    IsOnce (AfterFetch (Some file_of) name limit Next)
+after_fetch_once file_of name limit Next once a b (inl r) (inl s) =
+    once r.0 a b r.2 (subst (λ (bytes : List ℕ). Next bytes b) (sym (held_once file_of name limit r.0 s.0 r.1 s.1)) s.2)
+after_fetch_once file_of name limit Next once a b (inl r) (inr (inl s)) = absurd (held_not_lacking file_of name limit r.0 r.1 s.0)
+after_fetch_once file_of name limit Next once a b (inl r) (inr (inr s)) = absurd (held_not_longer file_of name limit r.0 r.1 s.0)
+after_fetch_once file_of name limit Next once a b (inr (inl r)) (inl s) = absurd (held_not_lacking file_of name limit s.0 s.1 r.0)
+after_fetch_once file_of name limit Next once a b (inr (inl r)) (inr (inl s)) = r.1 ∙ sym s.1
+after_fetch_once file_of name limit Next once a b (inr (inl r)) (inr (inr s)) = absurd (lacking_not_longer file_of name limit r.0 s.0)
+after_fetch_once file_of name limit Next once a b (inr (inr r)) (inl s) = absurd (held_not_longer file_of name limit s.0 s.1 r.0)
+after_fetch_once file_of name limit Next once a b (inr (inr r)) (inr (inl s)) = absurd (lacking_not_longer file_of name limit s.0 r.0)
+after_fetch_once file_of name limit Next once a b (inr (inr r)) (inr (inr s)) = r.1 ∙ sym s.1
+
+pub after_problem_once : (bytes : List ℕ) (Next : Problem → Due → Type 0) → ((p : Problem) → Reads bytes p → IsOnce (Next p)) → IsOnce (AfterProblem bytes Next)
+after_problem_once bytes Next once a b (inl r) (inl s) = r.2 ∙ ap (λ f. ends (Refused (fault.File f))) (refused_once bytes r.0 s.0 r.1 s.1) ∙ sym s.2
+after_problem_once bytes Next once a b (inl r) (inr s) = absurd (not_refused_and_read bytes r.0 s.0 r.1 s.1)
+after_problem_once bytes Next once a b (inr r) (inl s) = absurd (not_refused_and_read bytes s.0 r.0 s.1 r.1)
+after_problem_once bytes Next once a b (inr r) (inr s) =
+    let is = subst (λ (p : Problem). Next p b) (sym (read_once bytes r.0 s.0 r.1 s.1)) s.2 in
+    once r.0 r.1 a b r.2 is
+
+-- ---- commands
+
+classes_once_due : (p : Problem) → IsOnce (ClassesAreDue p)
+classes_once_due p a b r s =
     let e : r.1.0 ≡ s.1.0 = classes_once p.complex.faces p.part_of r.1.0 s.1.0 r.1.1 s.1.1 in
-    r.2 ∙ ap prints (r.1.2 ∙ ap (λ classes. flat_map (class_line p.complex.labels) classes) e ∙ sym s.1.2) ∙ sym s.2
+    r.2 ∙ ap prints (r.1.2 ∙ ap (λ classes. text_of (map (labels_of p.complex.labels) classes)) e ∙ sym s.1.2) ∙ sym s.2
 
 -- the lines of two graphs agree
 graph_lines_once : (p : Problem) → IsField (residues p.order) → (g h : MorseGraph) → IsMorseGraphOf p g → IsMorseGraphOf p h → morse_lines p.complex.labels g ≡ morse_lines p.complex.labels h
@@ -36,33 +89,45 @@ graph_lines_once p laws g h is_g is_h =
     let numbers : g.numbers ≡ h.numbers = numbers_once p.complex g.sets g.numbers h.numbers (numbers_are_one laws p.complex) is_g.numbers_count (is_h.numbers_count ∙ ap length (sym sets)) is_g.numbers conley in
     let covers = subst (λ (ss : List (List ℕ)). AreCovers (field_of F p.complex p.part_of) ss h.order) (sym sets) is_h.order in
     let order : g.order ≡ h.order = covers_once (field_of F p.complex p.part_of) g.sets g.order h.order is_g.order covers in
-    let lines : List (List ℕ) → List (List ℕ) → List (ℕ × ℕ) → List ℕ = λ ss ns os. morse_lines p.complex.labels (record { sets = ss; numbers = ns; order = os }) in
+    let lines = λ (ss ns : List (List ℕ)) (os : List (ℕ × ℕ)). morse_lines p.complex.labels (record { sets = ss; numbers = ns; order = os }) in
     ap (λ ss. lines ss g.numbers g.order) sets ∙ ap (λ ns. lines h.sets ns g.order) numbers ∙ ap (λ os. lines h.sets h.numbers os) order
 
-morse_once : (p : Problem) → IsField (residues p.order) → (a b : Due) → IsDueOn Morse p a → IsDueOn Morse p b → a ≡ b
-morse_once p laws a b (inl r) (inl s) =
+morse_once_due : (p : Problem) → IsField (residues p.order) → IsOnce (MorseIsDue p)
+morse_once_due p laws a b (inl r) (inl s) =
     let e = ap length (finest_once p.complex p.part_of r.1.1.0 s.1.1.0 r.1.1.1 s.1.1.1) in
-    r.2 ∙ ap (λ n. refused (fault.Morse n)) (sym r.1.1.2 ∙ e ∙ s.1.1.2) ∙ sym s.2
-morse_once p laws a b (inl r) (inr s) = let e = ap length (finest_once p.complex p.part_of r.1.1.0 s.0.sets r.1.1.1 s.1.sets) in absurd (omega (arith, e, r.1.0, r.1.1.2, s.2))
-morse_once p laws a b (inr r) (inl s) = let e = ap length (finest_once p.complex p.part_of s.1.1.0 r.0.sets s.1.1.1 r.1.sets) in absurd (omega (arith, e, s.1.0, s.1.1.2, r.2))
-morse_once p laws a b (inr r) (inr s) = r.3 ∙ ap prints (graph_lines_once p laws r.0 s.0 r.1 s.1) ∙ sym s.3
+    r.2 ∙ ap (λ n. ends (Refused (fault.Morse n))) (sym r.1.1.2 ∙ e ∙ s.1.1.2) ∙ sym s.2
+morse_once_due p laws a b (inl r) (inr s) = let e = ap length (finest_once p.complex p.part_of r.1.1.0 s.0.sets r.1.1.1 s.1.sets) in absurd (omega (arith, e, r.1.0, r.1.1.2, s.2))
+morse_once_due p laws a b (inr r) (inl s) = let e = ap length (finest_once p.complex p.part_of s.1.1.0 r.0.sets s.1.1.1 r.1.sets) in absurd (omega (arith, e, s.1.0, s.1.1.2, r.2))
+morse_once_due p laws a b (inr r) (inr s) = r.3 ∙ ap (λ lines. prints (text_of lines)) (graph_lines_once p laws r.0 s.0 r.1 s.1) ∙ sym s.3
 
-due_on_once : (verb : Verb) (p : Problem) → IsField (residues p.order) → (a b : Due) → IsDueOn verb p a → IsDueOn verb p b → a ≡ b
-due_on_once Classes p laws a b r s = text_once p a b r s
-due_on_once Morse p laws a b r s = morse_once p laws a b r s
+verdict_once : (P : certificate.Problem) (C : Certificate) → IsOnce (VerdictIsDue P C)
+verdict_once P C a b (inl r) (inl s) = r.1 ∙ sym s.1
+verdict_once P C a b (inl r) (inr s) = absurd (s.0 r.0)
+verdict_once P C a b (inr r) (inl s) = absurd (r.0 s.0)
+verdict_once P C a b (inr r) (inr s) =
+    let e : Some r.1.0 ≡ Some s.1.0 = sym r.1.1 ∙ s.1.1 in
+    let same : r.1.0 ≡ s.1.0 = cc in
+    r.1.2 ∙ ap (λ reason. ends (Rejected reason)) same ∙ sym s.1.2
 
-after_problem_once : (verb : Verb) (bytes : List ℕ) (a b : Due) → AfterProblem bytes (IsDueOn verb) a → AfterProblem bytes (IsDueOn verb) b → a ≡ b
-after_problem_once verb bytes a b (inl r) (inl s) = r.2 ∙ ap (λ f. refused (fault.File f)) (refused_once bytes r.0 s.0 r.1 s.1) ∙ sym s.2
-after_problem_once verb bytes a b (inl r) (inr s) = absurd (not_refused_and_read bytes r.0 s.0 r.1 s.1)
-after_problem_once verb bytes a b (inr r) (inl s) = absurd (not_refused_and_read bytes s.0 r.0 s.1 r.1)
-after_problem_once verb bytes a b (inr r) (inr s) =
-    let is = subst (λ (p : Problem). IsDueOn verb p b) (sym (read_once bytes r.0 s.0 r.1 s.1)) s.2 in
-    due_on_once verb r.0 (read_prime bytes r.0 r.1) a b r.2 is
+check_once_due : (file_of : List ℕ → Option (List ℕ)) (name : List ℕ) (p : Problem) → IsLayout (residues p.order) p.complex → IsOnce (CheckIsDue (Some file_of) name p)
+check_once_due file_of name p laws =
+    after_fetch_once file_of name certificate_limit (λ bytes. AfterCertificate (residues p.order) p.complex bytes (VerdictIsDue (in_full p))) (λ bytes. certificate_once bytes)
+  where
+    certificate_once : (bytes : List ℕ) → IsOnce (AfterCertificate (residues p.order) p.complex bytes (VerdictIsDue (in_full p)))
+    certificate_once bytes a b (inl r) (inl s) = r.2 ∙ ap (λ f. ends (Refused (fault.Cert f))) (certificates.refused_once (residues p.order) p.complex bytes r.0 s.0 r.1 s.1) ∙ sym s.2
+    certificate_once bytes a b (inl r) (inr s) = absurd (certificates.not_refused_and_read (residues p.order) p.complex bytes r.0 s.0 r.1 s.1)
+    certificate_once bytes a b (inr r) (inl s) = absurd (certificates.not_refused_and_read (residues p.order) p.complex bytes s.0 r.0 s.1 r.1)
+    certificate_once bytes a b (inr r) (inr s) =
+        let same = certificates.read_once (residues p.order) p.complex laws bytes r.0 s.0 r.1 s.1 in
+        verdict_once (in_full p) r.0 a b r.2 (subst (λ (C : Certificate). VerdictIsDue (in_full p) C b) (sym same) s.2)
 
-after_fetch_once : (verb : Verb) (result : Fetched) (a b : Due) → AfterFetch result (λ bytes. AfterProblem bytes (IsDueOn verb)) a → AfterFetch result (λ bytes. AfterProblem bytes (IsDueOn verb)) b → a ≡ b
-after_fetch_once verb (held bytes) a b r s = after_problem_once verb bytes a b r s
-after_fetch_once verb (ends this) a b r s = r ∙ sym s
+due_on_once : (verb : Verb) (file_of : List ℕ → Option (List ℕ)) (arguments : List (List ℕ)) (bytes : List ℕ) (p : Problem) → Reads bytes p → IsOnce (IsDueOn verb (Some file_of) arguments p)
+due_on_once Classes file_of arguments bytes p reads a b r s = classes_once_due p a b r s
+due_on_once Morse file_of arguments bytes p reads a b r s = morse_once_due p (read_prime bytes p reads) a b r s
+due_on_once Check file_of arguments bytes p reads a b r s = let sound = read_sound bytes p reads in check_once_due file_of _ p sound.laws a b r s
 
-pub due_once : (files : Files) (command : Option Command) (a b : Due) → IsDue files command a → IsDue files command b → a ≡ b
-due_once files None a b r s = r ∙ sym s
-due_once files (Some (on_file verb file)) a b r s = after_fetch_once verb (fetched files file FILE_LIMIT) a b r s
+pub due_once : (file_of : List ℕ → Option (List ℕ)) (command : Option Command) → IsOnce (IsDue (Some file_of) command)
+due_once file_of None a b r s = r ∙ sym s
+due_once file_of (Some command) a b r s =
+    let on = IsDueOn command.verb (Some file_of) command.arguments in
+    after_fetch_once file_of _ _ (λ bytes. AfterProblem bytes on) (λ bytes. after_problem_once bytes on (due_on_once command.verb file_of command.arguments bytes)) a b r s

@@ -1,51 +1,48 @@
 -- What the steps of a run before its text say of the outcome that ends it; no public clause cites it.
---     FetchCause result read outcome     the cause of an outcome that a fetch gives
---     IsRefusedFile result fault         the bytes that were fetched are refused
---     ProblemCause result read outcome   the cause of an outcome that reading a problem gives
---     Stands result problem              the bytes that were fetched stand for the problem
---     TextCause Is outcome               the cause of an outcome that a problem gives
---     EndCause Is read outcome           the cause of an outcome that ends a run before its text
-use Rattle.std.specs.Prelude.{◌≡◌, ◌⊎◌}
+--     FetchCause files name limit read outcome   the cause of an outcome that a fetch gives
+--     ProblemCause files file read outcome       the cause of an outcome that reading a problem gives
+--     EndCause Is read outcome                   the cause of an outcome that ends a run before its text, where `Is` says what is due
+--     StandsFor files file problem               the file may have bytes that stand for the problem
+--     due_of answer                              an answer that a command gave, as what is due
+--     graph_of found                             the Morse graph of a decomposition that was found
+use Rattle.std.specs.Prelude.{◌⊎◌, ℕ, List}
+use Rattle.conley_outside.specs.Depot.{Files, Lacks}
+use Rattle.conley_walk.specs.Lists.{items_of}
+use Rattle.conley_morse.specs.declared.decomposition.Decomposition.{Decomposition}
 use Rattle.conley_input.specs.Problem.{Problem, Reads, Refuses}
-use Rattle.conley_input.specs.declared.error.FileFault.{FileFault}
-use Rattle.conley_tool.specs.Headline.{Due, untold, lacking, longer, refused, Fetched, held, ends}
-use Rattle.conley_tool.specs.Outcomes.{MayBe}
+use Rattle.conley_tool.specs.Due.{Due, ends, prints, accepts}
+use Rattle.conley_tool.specs.Fetches.{Holds, IsLonger, file_limit}
+use Rattle.conley_tool.specs.Morse.{MorseGraph}
+use Rattle.conley_tool.specs.declared.answer.Answer.{Answer}
+use Rattle.conley_tool.specs.declared.answer.Answer.TheVariants.{Prints, Accepts}
 use Rattle.conley_tool.specs.declared.outcome.Fault.TheVariants.{File}
 use Rattle.conley_tool.specs.declared.outcome.Outcome.{Outcome}
-use Rattle.conley_tool.specs.declared.outcome.Outcome.TheVariants.{Refused, ReadFault, TooLong, NoMemory}
+use Rattle.conley_tool.specs.declared.outcome.Outcome.TheVariants.{Refused, Rejected, ReadFault, TooLong, NoMemory}
 
--- the cause of an outcome that a fetch gives
-abbrev pub FetchCause : Fetched → (read : Type 0) → Outcome → Type 0
-FetchCause result read ReadFault = read ⊎ (result ≡ ends lacking)
-FetchCause result read TooLong = (result ≡ ends longer) ⊎ (result ≡ ends untold)
-FetchCause result read NoMemory = Unit {0}
-FetchCause result read _ = ⊥
+abbrev pub FetchCause : Files → List ℕ → ℕ → (read : Type 0) → Outcome → Type 0
+FetchCause files name limit read ReadFault = read ⊎ Lacks files name
+FetchCause files name limit read TooLong = IsLonger files name limit
+FetchCause files name limit read NoMemory = Unit {0}
+FetchCause files name limit read _ = ⊥
 
--- the bytes are refused, or the files aren't told
-abbrev pub IsRefusedFile : Fetched → FileFault → Type 0
-IsRefusedFile (held bytes) fault = Refuses bytes fault
-IsRefusedFile (ends this) fault = this ≡ untold
+abbrev pub ProblemCause : Files → List ℕ → (read : Type 0) → Outcome → Type 0
+ProblemCause files file read (Refused (File fault)) = (bytes : List ℕ) × Holds files file file_limit bytes × Refuses bytes fault
+ProblemCause files file read outcome = FetchCause files file file_limit read outcome
 
--- the cause of an outcome that reading a problem gives
-abbrev pub ProblemCause : Fetched → (read : Type 0) → Outcome → Type 0
-ProblemCause result read (Refused (File fault)) = IsRefusedFile result fault
-ProblemCause result read outcome = FetchCause result read outcome
-
--- the bytes stand for the problem
-abbrev pub Stands : Fetched → Problem → Type 0
-Stands (held bytes) problem = Reads bytes problem
-Stands (ends this) problem = ⊥
-
--- the cause of an outcome that a problem gives where `Is` says what is due for it
-abbrev pub TextCause : (Due → Type 0) → Outcome → Type 0
-TextCause Is (Refused fault) = Is (refused fault)
-TextCause Is NoMemory = Unit {0}
-TextCause Is _ = ⊥
-
--- the cause of an outcome that ends a run before its text
 abbrev pub EndCause : (Due → Type 0) → (read : Type 0) → Outcome → Type 0
-EndCause Is read (Refused fault) = MayBe Is (refused fault)
-EndCause Is read ReadFault = read ⊎ Is lacking
-EndCause Is read TooLong = MayBe Is longer
+EndCause Is read (Refused fault) = Is (ends (Refused fault))
+EndCause Is read (Rejected reason) = Is (ends (Rejected reason))
+EndCause Is read TooLong = Is (ends TooLong)
+EndCause Is read ReadFault = read ⊎ Is (ends ReadFault)
 EndCause Is read NoMemory = Unit {0}
 EndCause Is read _ = ⊥
+
+abbrev pub StandsFor : Files → List ℕ → Problem → Type 0
+StandsFor files file problem = (bytes : List ℕ) × Holds files file file_limit bytes × Reads bytes problem
+
+abbrev pub due_of : Answer → Due
+due_of (Prints text) = prints text.items
+due_of Accepts = accepts
+
+abbrev pub graph_of : Decomposition → MorseGraph
+graph_of found = record { sets = items_of found.sets.items; numbers = items_of found.numbers.items; order = found.order.items }

@@ -1,8 +1,11 @@
+pub mod Due
 pub mod Words
-pub mod Texts
-pub mod MorseText
-pub mod MorseMaking
-pub mod Line
+pub mod CommandMeaning
+pub mod Fetches
+pub mod Classes
+pub mod Morse
+pub mod Check
 pub mod Headline
+pub mod Line
 pub mod Outcomes
 pub mod Ends

@@ -1,14 +1,14 @@
 //! The line on the error stream.
 
-ghost use Rattle.std.specs.Prelude.{◌≡◌, ◌⊎◌, OnOk, OnErr};
+ghost use Rattle.std.specs.Prelude.{◌≡◌, OnOk, OnErr};
 ghost use Rattle.conley_outside.specs.Faults.{HasCause};
 ghost use Rattle.conley_outside.specs.Sink.{gains, GainsPrefix};
 ghost use Rattle.conley_tool.specs.Line.{line_of};
 
-use crate::put::put_pieces;
-use crate::refusal::{put_one, report_file};
-use crate::{Fault, Outcome};
+use crate::Outcome;
+use crate::words::USAGE;
 use conley_outside::{Failed, Sink};
+use conley_texts::{put_told, put_whole};
 
 /// Puts the line of an outcome. It takes no memory.
 pub(crate) fn report<E: Sink>(outcome: &Outcome, err: &mut E) -> Result<(), Failed>
@@ -17,16 +17,13 @@ pub(crate) fn report<E: Sink>(outcome: &Outcome, err: &mut E) -> Result<(), Fail
     ensures cause { HasCause (E.faults err.old) (E.faults err.new) result }
 {
     match outcome {
-        Outcome::Done => put_pieces(err, &[]),
-        Outcome::Refused(Fault::File(fault)) => report_file(fault, err),
-        Outcome::Refused(Fault::Morse(count)) => put_one(err, b"E14", *count as u64),
-        Outcome::Usage => put_pieces(
-            err,
-            &[b"usage: conley classes FILE | morse FILE\n".as_slice()],
-        ),
-        Outcome::ReadFault => put_pieces(err, &[b"read fault\n".as_slice()]),
-        Outcome::TooLong => put_pieces(err, &[b"too long\n".as_slice()]),
-        Outcome::WriteFault => put_pieces(err, &[b"write fault\n".as_slice()]),
-        Outcome::NoMemory => put_pieces(err, &[b"no memory\n".as_slice()]),
+        Outcome::Done | Outcome::Accepted => put_whole(err, b""),
+        Outcome::Refused(fault) => put_told(err, "refused", &fault.told()),
+        Outcome::Rejected(reason) => put_told(err, "rejected", &reason.told()),
+        Outcome::Usage => put_whole(err, USAGE.as_bytes()),
+        Outcome::ReadFault => put_whole(err, b"read fault\n"),
+        Outcome::TooLong => put_whole(err, b"too long\n"),
+        Outcome::WriteFault => put_whole(err, b"write fault\n"),
+        Outcome::NoMemory => put_whole(err, b"no memory\n"),
     }
 }

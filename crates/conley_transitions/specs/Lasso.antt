@@ -7,7 +7,8 @@
 --     IsInInvariantPart field set x      x is on some lasso in the set
 --     Isolates field closed set          the closed set isolates the set
 --     IsIsolatedInvariant field set      the set equals its invariant part, and some closed set isolates it
--- After Mrozek and Wanner; the wording is this project's own.
+-- Essential closed walks and lassos, which are finite, are this project's own; the other words are after Mrozek and Wanner, stated by these.
+-- Nothing is claimed of how they relate to the essential solutions of other works.
 use Rattle.std.specs.Prelude.{◌≢◌, ◌↔◌, ℕ, List, [], ◌∷◌, ◌++◌, Contains}
 use Rattle.conley_walk.specs.Walk.{Walk}
 use Rattle.conley_faces.specs.Face.{IsClosed}

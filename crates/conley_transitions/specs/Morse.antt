@@ -7,7 +7,7 @@
 --     AreCountingClasses field sets      the recurrence classes that count, each once
 --     SetReaches field from to           a walk leads from a cell of the one set to a cell of the other
 --     IsReachOrder field sets below      below j i says that i and j differ and i reaches j
--- After Mrozek and Wanner; the wording is this project's own.
+-- After Mrozek and Wanner, stated by lassos, which are this project's own.
 use Rattle.std.specs.Prelude.{◌≡◌, ◌≢◌, ◌⊎◌, ◌<◌, ◌↔◌, ℕ, List, [], Bool, true, Contains, length, slice_index_or}
 use Rattle.conley_walk.specs.Walk.{Reaches}
 use Rattle.conley_transitions.specs.Field.{Field, IsCell, StepOf, AreRecurrent, Counts}

@@ -4,14 +4,13 @@
 //! Which parts are regular is told by the caller: the crate knows no homology.
 #![tactic(auto)]
 
+mod classes;
 mod laws;
 mod steps;
 
+pub use classes::recurrence_classes;
 pub use laws::{finest_decomposition, invariant_parts, isolated_sets};
 pub use steps::transitions;
 
 /// Want of memory.
 pub type NoMemory = std::alloc::AllocError;
-
-#[cfg(test)]
-mod tests;

@@ -1,23 +1,21 @@
 ghost use Rattle.std.specs.Prelude.{IfOk};
 ghost use Rattle.conley_faces.specs.Face.{IsCellList};
 
-use conley_field::{AnyField, Field, Scalar};
+use conley_field::PrimeField;
+use conley_fixtures::complex_of;
 use conley_homology::{Homology, relative};
 use conley_lefschetz::Complex;
 use std::alloc::{AllocError, Global};
-use std::process::Abort;
 use std::test::Fail;
 
 /// A triangulated surface: how many vertices it has, and the vertices of each triangle, ascending.
 struct Surface {
-    name: &'static str,
     vertices: u32,
     triangles: &'static [(u32, u32, u32)],
 }
 
 /// The seven vertices of Möbius: every two are joined.
 const TORUS: Surface = Surface {
-    name: "torus",
     vertices: 7,
     triangles: &[
         (0, 1, 3),
@@ -39,7 +37,6 @@ const TORUS: Surface = Surface {
 
 /// A grid of three by three vertices, closed with a turn in one direction.
 const KLEIN_BOTTLE: Surface = Surface {
-    name: "Klein bottle",
     vertices: 9,
     triangles: &[
         (0, 3, 4),
@@ -65,7 +62,6 @@ const KLEIN_BOTTLE: Surface = Surface {
 
 /// Half of an icosahedron: six vertices, every two joined.
 const PROJECTIVE_PLANE: Surface = Surface {
-    name: "projective plane",
     vertices: 6,
     triangles: &[
         (0, 1, 2),
@@ -81,100 +77,92 @@ const PROJECTIVE_PLANE: Surface = Surface {
     ],
 };
 
-/// Cells with their labels and dimensions, and the incidences among them.
-#[derive(Drop)]
-struct Cells {
-    labels: Vec<String>,
-    dims: Vec<u8>,
-    incidences: Vec<(u32, u32, Scalar)>,
+/// The ends of the three edges of a triangle, and the codes of their incidences with it over a field with so many elements.
+fn sides(triangle: &(u32, u32, u32), minus: u8) -> [(u32, u32, u8); 3] {
+    let (a, b, c) = *triangle;
+    [(a, b, 1), (a, c, minus), (b, c, 1)]
 }
 
-impl Cells {
-    /// Puts one cell more at the end, whose label is a letter and its number among those of its dimension.
-    fn push(
-        &mut self,
-        alloc: Global,
-        letter: &str,
-        number: u32,
-        dim: u8,
-    ) -> Result<(), AllocError> {
-        let mut label = String::from_str(alloc, letter)?;
-        let mut digits = itoa::Buffer::new();
-        label.push_str(digits.format(number))?;
-        self.labels.push(label)?;
-        self.dims.push(dim)?;
-        Ok(())
-    }
-}
-
-/// The number of an edge among the edges, which gain it where it isn't there.
-fn edge_number(edges: &mut Vec<(u32, u32)>, a: u32, b: u32) -> Result<u32, AllocError> {
+/// The number of an edge among the edges.
+fn number_of(edges: &[(u32, u32)], a: u32, b: u32) -> Option<u32> {
     let mut number: u32 = 0;
-    for edge in edges.iter() {
+    for edge in edges {
         if edge.0 == a && edge.1 == b {
-            return Ok(number);
+            return Some(number);
         }
         number = number.wrapping_add(1);
     }
-    edges.push((a, b))?;
-    Ok(number)
+    None
 }
 
-/// The complex of a surface: its vertices, then its edges, then its triangles, each with its ascending orientation.
-fn complex_of(
-    rt: &impl Abort,
-    alloc: Global,
-    field: AnyField,
-    surface: &Surface,
-) -> Result<Complex<AnyField>, Fail> {
-    let plus = field.one();
-    let minus = field.neg(plus);
+/// The edges of the triangles, each once.
+fn edges_of(alloc: Global, surface: &Surface) -> Result<Vec<(u32, u32)>, AllocError> {
     let mut edges = Vec::new(alloc);
     for triangle in surface.triangles {
-        let (a, b, c) = *triangle;
-        edge_number(&mut edges, a, b)?;
-        edge_number(&mut edges, a, c)?;
-        edge_number(&mut edges, b, c)?;
+        for (a, b, _) in sides(triangle, 1) {
+            if number_of(&edges, a, b).is_none() {
+                edges.push((a, b))?;
+            }
+        }
     }
-    let mut cells = Cells {
-        labels: Vec::new(alloc),
-        dims: Vec::new(alloc),
-        incidences: Vec::new(alloc),
-    };
-    for vertex in 0..surface.vertices {
-        cells.push(alloc, "v", vertex, 0)?;
-    }
+    Ok(edges)
+}
+
+/// Vertices, then edges, then triangles: each edge with its ends, and each triangle with its edges, by ascending orientation.
+fn incidences_of(
+    alloc: Global,
+    surface: &Surface,
+    edges: &[(u32, u32)],
+    minus: u8,
+) -> Result<Vec<(u32, u32, u8)>, AllocError> {
+    let mut incidences = Vec::new(alloc);
     let mut cell = surface.vertices;
-    for edge in edges.iter() {
-        cells.push(alloc, "e", cell, 1)?;
-        cells.incidences.push((cell, edge.0, minus))?;
-        cells.incidences.push((cell, edge.1, plus))?;
+    for (a, b) in edges {
+        incidences.push((cell, *a, minus))?;
+        incidences.push((cell, *b, 1))?;
         cell = cell.wrapping_add(1);
     }
     for triangle in surface.triangles {
-        let (a, b, c) = *triangle;
-        cells.push(alloc, "t", cell, 2)?;
-        for (from, to, value) in [(b, c, plus), (a, c, minus), (a, b, plus)] {
-            let edge = edge_number(&mut edges, from, to)?;
-            cells
-                .incidences
-                .push((cell, surface.vertices.wrapping_add(edge), value))?;
+        for (a, b, code) in sides(triangle, minus) {
+            let edge = number_of(edges, a, b).unwrap_or(0);
+            incidences.push((cell, surface.vertices.wrapping_add(edge), code))?;
         }
         cell = cell.wrapping_add(1);
     }
-    let Cells {
-        labels,
-        dims,
-        incidences,
-    } = cells;
-    let order = field.order();
-    assert_eq!(rt; labels.len(), dims.len());
-    assert!(rt; incidences.iter().all(|i| i.2.code() < order));
-    Ok(Complex::new(alloc, field, labels, dims, &incidences)?)
+    Ok(incidences)
+}
+
+/// The numbers of the cells as labels.
+fn labels_of(alloc: Global, dims: &[u8]) -> Result<Vec<String>, AllocError> {
+    let mut labels = Vec::new(alloc);
+    let mut digits = itoa::Buffer::new();
+    for cell in 0..dims.len() {
+        labels.push(String::from_str(alloc, digits.format(cell))?)?;
+    }
+    Ok(labels)
+}
+
+/// The dimensions of the vertices, the edges and the triangles.
+fn dims_of(alloc: Global, surface: &Surface, edges: usize) -> Result<Vec<u8>, AllocError> {
+    let mut dims = Vec::new(alloc);
+    dims.resize(surface.vertices as usize, 0)?;
+    dims.resize(dims.len().saturating_add(edges), 1)?;
+    dims.resize(dims.len().saturating_add(surface.triangles.len()), 2)?;
+    Ok(dims)
+}
+
+/// The complex of a surface over a field with so many elements.
+fn complex_over(alloc: Global, surface: &Surface, order: u8) -> Result<Complex<PrimeField>, Fail> {
+    let field = PrimeField::of(order as u32).ok_or("a prime of the table")?;
+    let edges = edges_of(alloc, surface)?;
+    let incidences = incidences_of(alloc, surface, &edges, order.wrapping_sub(1))?;
+    let dims = dims_of(alloc, surface, edges.len())?;
+    let labels = labels_of(alloc, &dims)?;
+    Ok(complex_of(alloc, field, labels, dims, &incidences)??)
 }
 
 /// All cells of a complex.
-fn all_cells(alloc: Global, complex: &Complex<AnyField>) -> Result<Vec<u32>, AllocError>
+fn all_cells(alloc: Global, complex: &Complex<PrimeField>) -> Result<Vec<u32>, AllocError>
     ensures { IfOk result (λ cells. IsCellList complex.now.1.faces cells.items) }
 {
     let mut cells = Vec::new(alloc);
@@ -185,7 +173,7 @@ fn all_cells(alloc: Global, complex: &Complex<AnyField>) -> Result<Vec<u32>, All
 }
 
 /// The homology of cells that are found to be locally closed.
-fn homology_of(alloc: Global, complex: &Complex<AnyField>, set: &[u32]) -> Result<Homology, Fail>
+fn homology_of(alloc: Global, complex: &Complex<PrimeField>, set: &[u32]) -> Result<Homology, Fail>
     requires { IsCellList complex.now.1.faces set.now }
 {
     if let Some(_gap) = complex.faces().find_gap(set) {
@@ -194,29 +182,28 @@ fn homology_of(alloc: Global, complex: &Complex<AnyField>, set: &[u32]) -> Resul
     Ok(relative(alloc, complex, set)?)
 }
 
+/// The homology of a surface over a field with so many elements.
+fn homology_over(alloc: Global, surface: &Surface, order: u8) -> Result<Homology, Fail> {
+    let complex = complex_over(alloc, surface, order)?;
+    let cells = all_cells(alloc, &complex)?;
+    homology_of(alloc, &complex, &cells)
+}
+
+/// Surfaces, orders of fields, and numbers of textbooks.
+const NUMBERS: [(&Surface, u8, [u32; 3]); 6] = [
+    (&TORUS, 2, [1, 2, 1]),
+    (&TORUS, 3, [1, 2, 1]),
+    (&KLEIN_BOTTLE, 2, [1, 2, 1]),
+    (&KLEIN_BOTTLE, 3, [1, 1, 0]),
+    (&PROJECTIVE_PLANE, 2, [1, 1, 1]),
+    (&PROJECTIVE_PLANE, 3, [1, 0, 0]),
+];
+
 #[test]
 fn surfaces_have_the_numbers_of_textbooks(rt: HostRuntime) -> Result<(), Fail> {
-    let rows: [(&Surface, u32, [u32; 3]); 6] = [
-        (&TORUS, 2, [1, 2, 1]),
-        (&TORUS, 3, [1, 2, 1]),
-        (&KLEIN_BOTTLE, 2, [1, 2, 1]),
-        (&KLEIN_BOTTLE, 3, [1, 1, 0]),
-        (&PROJECTIVE_PLANE, 2, [1, 1, 1]),
-        (&PROJECTIVE_PLANE, 3, [1, 0, 0]),
-    ];
-    for (surface, order, numbers) in rows {
-        let Some(field) = AnyField::of(order) else {
-            return Err("no field".into());
-        };
-        let complex = complex_of(&rt, rt.alloc(), field, surface)?;
-        let cells = all_cells(rt.alloc(), &complex)?;
-        let name = surface.name;
-        let homology = homology_of(rt.alloc(), &complex, &cells)?;
-        assert_eq!(rt;
-            homology.numbers.as_slice(),
-            numbers.as_slice(),
-            "of the {name} over {order}"
-        );
+    for (surface, order, numbers) in &NUMBERS {
+        let homology = homology_over(rt.alloc(), surface, *order)?;
+        assert!(rt; homology.numbers.as_slice() == numbers.as_slice());
     }
     Ok(())
 }

@@ -1,6 +1,6 @@
 //! Lists of lists of numbers: their entries, and lists put in order.
 
-ghost use Rattle.std.specs.Prelude.{◌≡◌, ◌<◌, ◌≤◌, ◌^◌, ◌↔◌, All, take, slice_index, ℕ, OnOk, IfOk, IfSome, IfNone, IsTrue, Contains, length};
+ghost use Rattle.std.specs.Prelude.{◌≡◌, ◌<◌, ◌≤◌, ◌^◌, ◌↔◌, All, take, slice_index, ℕ, OnOk, OnErr, IfOk, IfSome, IfNone, IsTrue, Contains, length};
 ghost use Rattle.std.specs.List.Sorted.{IsStrictlyIncreasing};
 ghost use Rattle.conley_walk.specs.Lists.{items_of, IsDigraph, entries_of, IsFirstOutOfRange, IsOrderedCopy, PutsUnder};
 ghost use Rattle.conley_walk.specs.Gathered.{IsNumbering, AreGathered};
@@ -70,10 +70,11 @@ pub fn stands_in(list: &[u32], x: u32) -> bool
     }
 }
 
-/// Puts y at the end of list x.
+/// Puts y at the end of list x. Where there is no memory the lists stay as they are.
 pub fn put_under(lists: &mut Vec<Vec<u32>>, x: u32, y: u32) -> Result<(), AllocError>
     requires { x < length lists.old.items }
-    ensures { OnOk result (PutsUnder (items_of lists.old.items) (items_of lists.new.items) x y) }
+    ensures puts { OnOk result (PutsUnder (items_of lists.old.items) (items_of lists.new.items) x y) }
+    ensures unchanged { OnErr result (items_of lists.new.items ≡ items_of lists.old.items) }
 {
     lists[x as usize].push(y)?;
     Ok(())

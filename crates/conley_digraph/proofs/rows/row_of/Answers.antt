@@ -15,10 +15,10 @@ loop-x-init c =
     let old = c.in_ok-row.row.items in
     let empty : old ≡ replicate (length c.args.rows.now / 64 + 1) 0 = c.in_ok-row.ensures.items_if_clones_equal (λ y e. e) in
     let bits = rw c.deref_mut.ensures.value at c.set_bit.ensures.kept in
-    let width : length c.set_bit.new.row ≡ length old = c.set_bit.auto.row ∙ ap length c.deref_mut.ensures.value in
+    let width : length c.set_bit.new.words ≡ length old = c.set_bit.auto.words ∙ ap length c.deref_mut.ensures.value in
     let whole : length old ≡ c.in_ok-row.row.len = omega (arith, c.in_ok-row.row.ok.0) in
-    rw (lent_whole c.set_bit.new.row old c.in_ok-row.row.len (width ∙ whole) whole) (record {
-      row = row_start (items_of c.args.steps.now) c.args.class_of.now (length c.args.rows.now) c.args.class old c.set_bit.new.row c.requires.classes empty width c.set_bit.ensures.set bits;
+    rw (lent_whole c.set_bit.new.words old c.in_ok-row.row.len (width ∙ whole) whole) (record {
+      row = row_start (items_of c.args.steps.now) c.args.class_of.now (length c.args.rows.now) c.args.class old c.set_bit.new.words c.requires.classes empty width c.set_bit.ensures.set bits;
       heads = λ x y m. Contains-none x m;
     })
 

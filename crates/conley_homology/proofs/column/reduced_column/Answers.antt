@@ -19,8 +19,8 @@ source_of : (g : Over) (c : In-Some g) → IsSource (g.met.F.Field.is_field c.ar
     c.requires.so_far.chain c.args.columns.now.reduced.items c.args.i (place g c).0 c.in-Some.source
 source_of g c =
     source (g.met.F.Field.is_field c.args.field.now) c.args.part.now.boundary.now c.args.part.now.dims.now c.args.part.now.set.now c.requires.complex
-    c.args.columns.now.kept.items c.args.columns.now.reduced.items c.args.columns.now.owner.items c.args.i (place g c).0 c.in-Some.source c.loop-source.kept c.loop-source.reduced
-    c.requires.so_far c.loop-source.invariant.0 (c.loop-source.invariant.1.at (place g c).0 (place g c).1.0) (below g c) (place g c).1.1
+    c.args.columns.now.kept.items c.args.columns.now.reduced.items c.args.columns.now.owner.items c.args.i (place g c).0 c.in-Some.source c.loop-source.invariant.0.chain (coefficient c.loop-source.reduced)
+    c.requires.so_far c.loop-source.invariant.0.column (c.loop-source.invariant.1.at (place g c).0 (place g c).1.0) (below g c) (place g c).1.1
 
 pub loop-source-init : goal.loop-source-init
 loop-source-init g c = (
@@ -31,7 +31,7 @@ loop-source-init g c = (
 )
 
 pub index-other-requires : goal.index-other-requires
-index-other-requires g c = omega (arith, (source_of g c).within, c.requires.so_far.reduced_count, c.args.columns.now.reduced.ok.0)
+index-other-requires g c = omega (arith, (source_of g (goal.at.index-other-requires g c).In-Some).within, c.requires.so_far.reduced_count, c.args.columns.now.reduced.ok.0)
 
 -- the place of the cell at which the boundary ends
 cell_is : (g : Over) (c : In-Some g) → get_or c.args.part.now.set.now (c.loop-source.end - 1) 0 ≡ place_in c.args.part.now.set.now (place g c).0

@@ -21,10 +21,10 @@ loop-incidence-init c = record {
 pub loop-incidence-preserved : goal.loop-incidence-preserved
 loop-incidence-preserved c =
     let at = get_or_default c.args.incidences.now c.loop-incidence.incidence-index (0, 0, 0) c.incidence-item.result c.loop-incidence-test.true ∙ sym c.incidence-item.is in
-    let puts = subst (λ (i : ℕ × ℕ × ℕ). PutsUnder (items_of c.loop-incidence.lists.items) (items_of c.put_under.new.lists.items) i.0 i.1) (sym at) c.in_ok-put_under.ensures in
+    let puts = subst (λ (i : ℕ × ℕ × ℕ). PutsUnder (items_of c.loop-incidence.lists.items) (items_of c.put_under.new.lists.items) i.0 i.1) (sym at) c.in_ok-put_under.ensures.puts in
     record {
-      count = omega (arith, c.in_ok-put_under.ensures.count, c.loop-incidence.invariant.count, length-items_of c.loop-incidence.lists.items, length-items_of c.put_under.new.lists.items);
-      entries = omega (arith, c.in_ok-put_under.ensures.entries, c.loop-incidence.invariant.entries);
+      count = omega (arith, c.in_ok-put_under.ensures.puts.count, c.loop-incidence.invariant.count, length-items_of c.loop-incidence.lists.items, length-items_of c.put_under.new.lists.items);
+      entries = omega (arith, c.in_ok-put_under.ensures.puts.entries, c.loop-incidence.invariant.entries);
       steps = steps_more c.args.incidences.now c.loop-incidence.incidence-index (items_of c.loop-incidence.lists.items) _ c.loop-incidence.invariant.steps puts;
     }
 

@@ -1,8 +1,8 @@
-use Rattle.std.proofs.Common.{◌≡◌, take}
-use Rattle.std.specs.List.{flat_map}
+use Rattle.std.proofs.Common.{◌≡◌, map, take}
 use Rattle.conley_walk.specs.Lists.{items_of}
-use Rattle.conley_tool.specs.Texts.{class_line}
+use Rattle.conley_texts.specs.Line.{text_of}
+use Rattle.conley_texts.specs.Words.{labels_of}
 use Rattle.conley_tool.proofs.classes.classes_text.Given as goal
 
 abbrev pub invariant-loop-k : goal.invariant-loop-k
-invariant-loop-k l = l.text.items ≡ flat_map (class_line l.problem.complex.1.labels) (take l.k (items_of l.classes.items))
+invariant-loop-k l = l.text.items ≡ text_of (map (labels_of l.problem.complex.1.labels) (take l.k (items_of l.classes.items)))

@@ -1,35 +1,30 @@
-use Rattle.std.proofs.Common.{arith, get_or, ap, subst, inl, inr}
-use Rattle.std.proofs.lemmas.List.Elements.{Contains-get_or}
-use Rattle.conley_walk.specs.Lists.{items_of}
-use Rattle.conley_walk.proofs.ListLemmas.{length-items_of}
-use Rattle.conley_field.specs.Arithmetic.{Arithmetic}
-use Rattle.conley_input.specs.ProblemMeaning.{meaning_of}
-use Rattle.conley_transitions.specs.Morse.{set_at}
-use Rattle.conley_graph.specs.Decomposition.{IsConleyMorseGraph, HasTooManySets}
-use Rattle.conley_tool.specs.Headline.{prints, refused}
-use Rattle.conley_tool.specs.MorseText.{IsMorseGraphOf}
-use Rattle.conley_tool.specs.MorseMaking.{graph_of}
-use Rattle.conley_tool.specs.declared.outcome.Fault.TheVariants.{Morse}
-use Rattle.conley_input.proofs.CellLemmas.{arithmetic_of-residues}
+-- one more line
+use Rattle.std.proofs.Common.{arith, ◌+◌, ◌++◌, ◌∷◌, [], ℕ, List, length, map, get_or, take, sym, ◌∙◌, ap, append_assoc}
+use Rattle.std.specs.List.{range_with_len}
+use Rattle.std.proofs.lemmas.List.{append-nil, map-append}
+use Rattle.conley_texts.specs.Line.{line, text_of}
+use Rattle.conley_texts.proofs.LineLemmas.{text_of-append, text_more}
+use Rattle.conley_tool.specs.Morse.{set_words, order_words}
+use Rattle.conley_tool.specs.Ends.{graph_of}
+use Rattle.conley_tool.proofs.RangeLemmas.{range_more}
 use Rattle.conley_tool.proofs.morse.morse_text.Goals as goal
 
-pub returns-in-Err-TooManyMorse-clause-err : goal.returns-in-Err-TooManyMorse-clause-err
-returns-in-Err-TooManyMorse-clause-err c =
-    let problem = meaning_of c.args.problem.now in
-    let many = c.in-Err-TooManyMorse.ensures.too_many c.in-Err-TooManyMorse.count (cc) in
-    let sets = subst (λ (F : Arithmetic). HasTooManySets F problem.complex problem.part_of c.in-Err-TooManyMorse.count) (arithmetic_of-residues c.args.problem.now.complex.0) many in
-    inl (c.in-Err-TooManyMorse.count, sets, ap (λ n. refused (Morse n)) c.in-Err-TooManyMorse.count-is)
+pub loop-m-preserved : goal.loop-m-preserved
+loop-m-preserved c =
+    let words = set_words c.args.complex.now.1.labels (graph_of c.args.found.now) in
+    let m : ℕ = c.loop-m.m in
+    let more = ap text_of (ap (map words) (range_more m) ∙ map-append words (range_with_len 0 m) (m ∷ [])) ∙ text_of-append (map words (range_with_len 0 m)) (words m ∷ []) ∙ ap (λ t. text_of (map words (range_with_len 0 m)) ++ t) (append-nil (line (words m))) in
+    c.in_ok-push_set.ensures ∙ ap (λ (t : List ℕ). t ++ line (words m)) c.loop-m.invariant ∙ sym more
 
-pub lines_of-requires-clause-cells : goal.lines_of-requires-clause-cells
-lines_of-requires-clause-cells c = λ m lt k d lt'.
-    let sets = items_of c.in-Ok.found.sets.items in
-    let at = (c.in-Ok.ensures.graph.sets.classes.all (get_or (set_at sets m) k d)).0 (m, (omega (arith, lt, length-items_of c.in-Ok.found.sets.items), Contains-get_or (set_at sets m) k d lt')) in
-    omega (arith, at.0, c.requires.field.count, c.requires.laws.complex.faces_count, c.requires.laws.complex.dims_count)
-
-pub returns-clause-ok : goal.returns-clause-ok
-returns-clause-ok c =
-    let found = c.in-Ok.found in
-    let problem = meaning_of c.args.problem.now in
-    let graph : IsMorseGraphOf problem (graph_of found) =
-    subst (λ (F : Arithmetic). IsConleyMorseGraph F problem.complex problem.part_of (items_of found.sets.items) (items_of found.numbers.items) found.order.items) (arithmetic_of-residues c.args.problem.now.complex.0) c.in-Ok.ensures.graph in
-    inr (graph_of found, graph, omega (arith, length-items_of found.sets.items, c.in-Ok.ensures.few), ap prints c.in_ok-lines_of.ensures)
+pub loop-pair-preserved : goal.loop-pair-preserved
+loop-pair-preserved c =
+    let order : List (ℕ × ℕ) = c.args.found.now.order.items in
+    let k : ℕ = c.loop-pair.pair-index in
+    let sets = map (set_words c.args.complex.now.1.labels (graph_of c.args.found.now)) (range_with_len 0 (length c.args.found.now.sets.items)) in
+    let here = get_or order k (0, 0) in
+    c.in_ok-push_pair.ensures
+    ∙ ap (λ (l : List (ℕ × ℕ)). c.loop-pair.text.items ++ line (order_words (get_or l k (0, 0)))) c.deref-pair-items.ensures.value
+    ∙ ap (λ (t : List ℕ). t ++ line (order_words here)) (c.loop-pair.invariant ∙ text_of-append sets (map order_words (take k order)))
+    ∙ append_assoc (text_of sets) (text_of (map order_words (take k order))) (line (order_words here))
+    ∙ ap (λ (t : List ℕ). text_of sets ++ t) (sym (text_more order_words order k (0, 0) (omega (arith, c.loop-pair-test.true, c.deref-pair-items.ensures.len))))
+    ∙ sym (text_of-append sets (map order_words (take (k + 1) order)))

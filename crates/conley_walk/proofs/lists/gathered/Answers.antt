@@ -25,6 +25,6 @@ loop-x-preserved c =
       | else-number-len+in_ok-put_under w ↦
           let other : get_or numbers c.loop-x.x 0 ≢ length lists = λ e. w.if-number-len.false (omega (arith, e, whole)) in
           rw w.lists-is
-          (gathered-old numbers c.loop-x.x c.loop-x-test.true c.requires.in_order lists (items_of w.put_under.new.lists.items) c.loop-x.invariant w.in_ok-put_under.ensures
+          (gathered-old numbers c.loop-x.x c.loop-x-test.true c.requires.in_order lists (items_of w.put_under.new.lists.items) c.loop-x.invariant w.in_ok-put_under.ensures.puts
           (number_below numbers c.loop-x.x c.loop-x-test.true c.requires.in_order lists c.loop-x.invariant other))
     ]

@@ -1,0 +1,11 @@
+pub mod Tests
+pub mod Problem
+pub mod Certificate
+pub mod Analysis
+pub mod Places
+pub mod Reduced
+pub mod Reach
+pub mod Values
+pub mod Laws
+pub mod Told
+pub mod Counting

@@ -1,0 +1,10 @@
+pub mod File
+pub mod FileMeaning
+pub mod Certificate
+pub mod CertificateMeaning
+pub mod Refusals
+pub mod Told
+pub mod Reading
+pub mod Text
+pub mod Making
+pub mod MatricesMeaning

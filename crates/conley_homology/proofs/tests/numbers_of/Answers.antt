@@ -1,7 +1,0 @@
-use Rattle.std.proofs.Common.{ℕ, List, subst, rules}
-use Rattle.conley_faces.specs.Face.{IsLocallyClosed}
-use Rattle.conley_homology.proofs.tests.numbers_of.Goals as goal
-
-pub numbers-requires-clause-closed : goal.numbers-requires-clause-closed
-numbers-requires-clause-closed c =
-    subst (λ (faces : List (List ℕ)). IsLocallyClosed faces c.args.set.now) c.faces.ensures.faces (c.in_default.ensures.none.0 (search rules))

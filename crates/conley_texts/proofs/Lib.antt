@@ -1,0 +1,3 @@
+pub mod PieceLemmas
+pub mod JoinLemmas
+pub mod LineLemmas
