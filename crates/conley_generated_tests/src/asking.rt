@@ -1,18 +1,8 @@
-//! What the tests are made from, and what they ask of a complex.
+//! What the tests ask of a complex.
 
 use conley_chains::Matrix;
 use conley_field::Field;
 use conley_lefschetz::Complex;
-use std::alloc::{AllocError, Global};
-
-/// Labels as texts of their own.
-pub(crate) fn labels_of(alloc: Global, texts: &[&str]) -> Result<Vec<String>, AllocError> {
-    let mut labels = Vec::new(alloc);
-    for text in texts {
-        labels.push(String::from_str(alloc, text)?)?;
-    }
-    Ok(labels)
-}
 
 /// Whether the cells have these labels, in this order.
 pub(crate) fn has_labels<F: Field>(complex: &Complex<F>, labels: &[&str]) -> bool {

@@ -1,5 +1,6 @@
-use crate::asking::{has_entries, has_labels, labels_of};
+use crate::asking::{has_entries, has_labels};
 use conley_field::PrimeField;
+use conley_fixtures::{labels_of, lists_of};
 use conley_lefschetz::Complex;
 use conley_simplicial::{SimplicialError, simplicial};
 use std::alloc::Global;
@@ -13,11 +14,8 @@ fn made(
     most: usize,
 ) -> Result<Result<Complex<PrimeField>, SimplicialError>, Fail> {
     let vertices = labels_of(alloc, texts)?;
-    let mut simplices = Vec::new(alloc);
-    for list in lists {
-        simplices.push(Vec::from_slice(alloc, list)?)?;
-    }
-    if vertices.len() >= 100 || simplices.len() >= 100 || most >= 30_000 {
+    let simplices = lists_of(alloc, lists)?;
+    if vertices.len() >= 100 || most >= 30_000 {
         return Err("too long a table".into());
     }
     Ok(simplicial(alloc, PrimeField::Three, &vertices, &simplices, most))
