@@ -5,7 +5,8 @@ usage: make.py FOLDER
 
 A planar vector field is sampled on a square grid. Each sample says which cells the flow leads through together.
 The field of the problem is the finest partition of the grid's cells into locally closed parts that keeps
-those cells together. For each flow the file FOLDER/NAME/problem.json is written.
+those cells together. For each flow two files are written, with the same cells and the same parts: FOLDER/NAME/cubical.json
+lists the squares of the grid, FOLDER/NAME/problem.json lists each cell and each incidence.
 
 A cell of the grid is named by doubled coordinates (a, b): even for a point, odd for an interval between two.
 """
@@ -169,23 +170,34 @@ def hull(cells, lists):
     return list(parts.cells_of.values())
 
 
-# ---- the file
+# ---- the files
 
-def problem(flow, n, low, high):
+def problem(complex, parts):
+    return {"version": 1, "scalars": 2, "complex": complex, "field": {"kind": "whole", "parts": parts}}
+
+
+def by_squares(n):
+    side = range(n)
+    return {"kind": "cubical", "axes": 2, "cubes": [[[a, a + 1], [b, b + 1]] for a in side for b in side]}
+
+
+def by_cells(cells, number):
+    return {
+        "kind": "lefschetz",
+        "cells": [[label(cell), dimension(cell)] for cell in cells],
+        "incidences": [[number[cell], number[face], value] for cell in cells for face, value in boundary(cell)],
+    }
+
+
+def problems(flow, n, low, high):
+    """The name and the problem of each file."""
     cells = cells_of_grid(n)
     number = {cell: k for k, cell in enumerate(cells)}
     parts = hull(cells, lists_of_samples(flow, n, low, high))
     listed = sorted(sorted(number[cell] for cell in part) for part in parts if len(part) > 1)
-    return {
-        "version": 1,
-        "scalars": 2,
-        "complex": {
-            "kind": "lefschetz",
-            "cells": [[label(cell), dimension(cell)] for cell in cells],
-            "incidences": [[number[cell], number[face], value] for cell in cells for face, value in boundary(cell)],
-        },
-        "field": {"kind": "whole", "parts": [[label(cells[k]) for k in part] for part in listed]},
-    }
+    labels = [[label(cells[k]) for k in part] for part in listed]
+    yield "cubical.json", problem(by_squares(n), labels)
+    yield "problem.json", problem(by_cells(cells, number), labels)
 
 
 def main(words):
@@ -193,9 +205,10 @@ def main(words):
         sys.exit("usage: make.py FOLDER")
     for name, flow, n, low, high in FLOWS:
         os.makedirs(os.path.join(words[0], name), exist_ok=True)
-        with open(os.path.join(words[0], name, "problem.json"), "w", encoding="utf-8") as file:
-            json.dump(problem(flow, n, low, high), file, separators=(",", ":"))
-            file.write("\n")
+        for file_name, value in problems(flow, n, low, high):
+            with open(os.path.join(words[0], name, file_name), "w", encoding="utf-8") as file:
+                json.dump(value, file, separators=(",", ":"))
+                file.write("\n")
 
 
 if __name__ == "__main__":

@@ -1,4 +1,6 @@
 pub mod RefusalLemmas
+pub mod KindLemmas
+pub mod LimitLemmas
 pub mod TextLemmas
 pub mod CellLemmas
 pub mod PartLemmas

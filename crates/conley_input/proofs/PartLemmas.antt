@@ -1,74 +1,43 @@
 -- From what the searches over parts find to the refusals.
-use Rattle.std.proofs.Common.{◌≡◌, ◌<◌, ℕ, List, [], Some, None, length, get_or, sym, ◌∙◌, subst, arith}
+use Rattle.std.proofs.Common.{◌<◌, ℕ, List, [], Some, None, get_or, sym, subst, arith}
 use Rattle.std.specs.Prelude.{slice_index}
 use Rattle.std.proofs.lemmas.Grind.{get_or_default_zero}
-use Rattle.std.proofs.lemmas.List.FromFn.{length-map-range_with_len}
 use Rattle.conley_walk.specs.Lists.{ListedStep}
-use Rattle.conley_walk.proofs.WalkLemmas.{reaches_more}
-use Rattle.conley_faces.specs.Face.{IsFace, IsGap}
+use Rattle.conley_first.specs.First.{IsFirst}
 use Rattle.conley_lefschetz.specs.Complex.{Layout}
 use Rattle.conley_mvf.specs.Fault as parts
 use Rattle.conley_mvf.specs.declared.error.PartError.{PartError}
-use Rattle.conley_mvf.specs.declared.error.PartError.TheVariants as part
-use Rattle.conley_input.specs.Listing.{Listing, direct_faces}
+use Rattle.conley_input.specs.Listing.{Listing, IsComplexIn, parts_in}
 use Rattle.conley_input.specs.Places.{FindsFirst}
-use Rattle.conley_input.specs.Problem.{AreFacesOf, IsListedAs}
-use Rattle.conley_input.specs.Refusals.{IsUnknown, IsFirstRefusal, IsClear}
+use Rattle.conley_input.specs.Problem.{IsListedAs}
+use Rattle.conley_input.specs.Refusals.{IsUnknown, IsUnknownIn, FailsAsParts, IsFirstRefusal, IsClear}
 use Rattle.conley_input.specs.declared.error.FileFault.TheVariants.{UnknownCell}
+use Rattle.conley_input.proofs.CellLemmas.{complex_once}
 use Rattle.conley_input.proofs.RefusalLemmas.{clear_unknown, first_unknown}
 
--- gaps by faces in another order
-module _ (file : Listing) (faces : List (List ℕ)) (same : AreFacesOf file faces) where
-  pub length-direct_faces : length (direct_faces file) ≡ length file.labels
-  length-direct_faces = length-map-range_with_len _ 0 (length file.labels)
+-- what is said of the complex of the file is said of this one
+module _ (file : Listing) (c : Layout) (is : IsComplexIn file c) where
+  in_unknown : (l p : ℕ) → IsUnknownIn file l p → IsUnknown c.labels file.parts l p
+  in_unknown l p u = subst (λ (d : Layout). IsUnknown d.labels file.parts l p) (complex_once file u.0 c u.1 is) u.2
 
-  face_listed : (x y : ℕ) → IsFace faces x y → IsFace (direct_faces file) x y
-  face_listed x y f = record { cell = omega (arith, f.cell, same.count, length-direct_faces); walk = reaches_more {Step = ListedStep faces} {Other = ListedStep (direct_faces file)} (λ a b. (same.steps a b).0) f.walk }
+  pub in_parts : (error : PartError) → FailsAsParts file error → parts.Fails c.faces (parts_in c.labels file.parts) error
+  in_parts error f = subst (λ (d : Layout). parts.Fails d.faces (parts_in d.labels file.parts) error) (complex_once file f.0 c f.1 is) f.2
 
-  listed_face : (x y : ℕ) → IsFace (direct_faces file) x y → IsFace faces x y
-  listed_face x y f = record { cell = omega (arith, f.cell, same.count, length-direct_faces); walk = reaches_more {Step = ListedStep (direct_faces file)} {Other = ListedStep faces} (λ a b. (same.steps a b).1) f.walk }
-
-  pub gap_listed : (set : List ℕ) (x y z : ℕ) → IsGap faces set x y z → IsGap (direct_faces file) set x y z
-  gap_listed set x y z g = record { upper = g.upper; lower = g.lower; outside = g.outside; down = face_listed x y g.down; further = face_listed y z g.further }
-
-  pub listed_gap : (set : List ℕ) (x y z : ℕ) → IsGap (direct_faces file) set x y z → IsGap faces set x y z
-  listed_gap set x y z g = record { upper = g.upper; lower = g.lower; outside = g.outside; down = listed_face x y g.down; further = listed_face y z g.further }
-
--- the faults of parts, by faces in another order
-module _ (file : Listing) (faces : List (List ℕ)) (same : AreFacesOf file faces) (lists : List (List ℕ)) where
-  count : length faces ≡ length (direct_faces file)
-  count = same.count ∙ sym (length-direct_faces file faces same)
-
-  pub fails_listed : (error : PartError) → parts.Fails faces lists error → parts.Fails (direct_faces file) lists error
-  fails_listed part.NoMemory f = absurd f
-  fails_listed (part.Unknown l p) f = subst (λ n. parts.IsUnknown n lists l p) count f
-  fails_listed (part.Repeated l p) f = f
-  fails_listed (part.EmptyPart k) f = f
-  fails_listed (part.Gap k x y z) f = gap_listed file faces same (get_or lists k []) x y z f
-
-  pub listed_fails : (error : PartError) → parts.Fails (direct_faces file) lists error → parts.Fails faces lists error
-  listed_fails part.NoMemory f = absurd f
-  listed_fails (part.Unknown l p) f = subst (λ n. parts.IsUnknown n lists l p) (sym count) f
-  listed_fails (part.Repeated l p) f = f
-  listed_fails (part.EmptyPart k) f = f
-  listed_fails (part.Gap k x y z) f = listed_gap file faces same (get_or lists k []) x y z f
-
-  pub first_listed : (error : PartError) → parts.IsFirstFault faces lists error → parts.IsFirstFault (direct_faces file) lists error
-  first_listed error first = record { holds = fails_listed error first.holds; first = λ other before f. first.first other before (listed_fails other f) }
+  pub first_in_parts : (error : PartError) → parts.IsFirstFault c.faces (parts_in c.labels file.parts) error → IsFirst parts.number parts.place (FailsAsParts file) error
+  first_in_parts error f = record { holds = (c, is, f.holds); first = λ other before h. f.first other before (in_parts other h) }
 
 -- numbers of cells are known
 pub none_unknown : (n : ℕ) (lists : List (List ℕ)) → ((k x : ℕ) → ListedStep lists k x → x < n) → (l p : ℕ) → ¬ parts.IsUnknown n lists l p
 none_unknown n lists within l p f = omega (arith, f.1, within l (slice_index (get_or lists l []) p) (p, f.0, get_or_default_zero (get_or lists l []) p (slice_index (get_or lists l []) p) f.0))
 
--- parts of a file that lists this complex and these labels
-module _ (file : Listing) (layout : Layout) (labels : List (List (List ℕ))) (is : IsListedAs file layout labels) (clear : IsClear file 10) where
+-- labels of parts of the file
+module _ (file : Listing) (c : Layout) (labels : List (List (List ℕ))) (is : IsListedAs file c labels) (clear : IsClear file 10) where
   -- no label is unknown
-  pub known : FindsFirst (IsUnknown layout.labels labels) None → IsClear file 11
-  known none = clear_unknown file clear (λ l p f. none l p (subst (λ ps. IsUnknown layout.labels ps l p) (sym is.parts) (subst (λ ls. IsUnknown ls file.parts l p) (sym is.labels) f)))
+  pub known : FindsFirst (IsUnknown c.labels labels) None → IsClear file 11
+  known none = clear_unknown file clear (λ l p f. none l p (subst (λ (ps : List (List (List ℕ))). IsUnknown c.labels ps l p) (sym is.parts) (in_unknown file c is.complex l p f)))
 
--- the first label that no cell has
-pub unknown_first : (file : Listing) (layout : Layout) (labels : List (List (List ℕ))) → IsListedAs file layout labels → IsClear file 10 → (l p : ℕ) → FindsFirst (IsUnknown layout.labels labels) (Some (l, p)) → IsFirstRefusal file (UnknownCell l p)
-unknown_first file layout labels is clear l p found =
-    let found' = subst (λ ps. FindsFirst (IsUnknown layout.labels ps) (Some (l, p))) is.parts found in
-    let found'' = subst (λ ls. FindsFirst (IsUnknown ls file.parts) (Some (l, p))) is.labels found' in
-    first_unknown file clear l p found''.0 found''.1
+  -- the first label that no cell has
+  pub unknown_first : (l p : ℕ) → FindsFirst (IsUnknown c.labels labels) (Some (l, p)) → IsFirstRefusal file (UnknownCell l p)
+  unknown_first l p found =
+      let found' = subst (λ (ps : List (List (List ℕ))). FindsFirst (IsUnknown c.labels ps) (Some (l, p))) is.parts found in
+      first_unknown file clear l p (c, is.complex, found'.0) (λ l' p' before f. found'.1 l' p' before (in_unknown file c is.complex l' p' f))

@@ -1,82 +1,117 @@
--- From the places of one number to all refusals.
-use Rattle.std.proofs.Common.{◌≡◌, ◌<◌, ◌≤◌, ◌+◌, ℕ, List, [], ◌∷◌, inl, inr, length, refl, subst, arith}
+-- From the refusals of the complex and of parts to all refusals.
+use Rattle.std.proofs.Common.{◌≡◌, ◌<◌, ◌≤◌, ◌+◌, ℕ, List, [], ◌∷◌, inl, inr, refl, subst, arith}
 use Rattle.std.proofs.lemmas.Bool.{cases_lt}
-use Rattle.conley_first.specs.First.{Precedes}
+use Rattle.conley_field.specs.Arithmetic.{Arithmetic}
+use Rattle.conley_first.specs.First.{Precedes, StandsBefore, IsFirst}
 use Rattle.conley_first.proofs.FirstLemmas.{clear-next, first-next}
-use Rattle.conley_lefschetz.specs.Fault as complex
-use Rattle.conley_lefschetz.specs.declared.error.ComplexError.{ComplexError}
-use Rattle.conley_lefschetz.specs.declared.error.ComplexError.TheVariants as complex_error
 use Rattle.conley_mvf.specs.Fault as parts
 use Rattle.conley_mvf.specs.declared.error.PartError.{PartError}
 use Rattle.conley_mvf.specs.declared.error.PartError.TheVariants as part
-use Rattle.conley_input.specs.Errors.{file_error, part_error}
-use Rattle.conley_input.specs.Listing.{Listing, scalars_of, complex_of, direct_faces, parts_of}
-use Rattle.conley_input.specs.Refusals.{number, place, Fails, FailsAsComplex, FailsAsParts, IsFirstRefusal, IsClear}
+use Rattle.conley_input.specs.Errors.{part_error}
+use Rattle.conley_input.specs.File.{Complex, lefschetz, simplicial, cubical}
+use Rattle.conley_input.specs.Listing.{Listing, scalars_of}
+use Rattle.conley_input.specs.RefusalOrder.{number, place}
+use Rattle.conley_input.specs.Refusals.{Fails, FailsIn, FailsAsParts, IsFirstIn, IsFirstRefusal, IsClear}
 use Rattle.conley_input.specs.declared.error.FileFault.{FileFault}
-use Rattle.conley_input.specs.declared.error.FileFault.TheVariants.{NotJson, TooMany, DuplicateLabel, BadIncidence, BadSimplex, BadAxes, BadCube, TooManyCells, NotBoundary, UnknownCell, RepeatedCell, EmptyPart, NotLocallyClosed}
+use Rattle.conley_input.specs.declared.error.FileFault.TheVariants.{NotJson, BadLabel, DuplicateLabel, BadIncidence, BadSimplex, BadAxes, BadCube, TooManyCells, NotBoundary, UnknownCell, RepeatedCell, EmptyPart, NotLocallyClosed}
 use Rattle.conley_input.specs.declared.error.InputError.TheVariants.{Bad}
 
+-- ---- places
+
 -- a number in the place of another
-moved : (n m n' m' : ℕ) (a b : List ℕ) → (n < m → n' < m') → (n ≡ m → n' ≡ m') → Precedes (n ∷ a) (m ∷ b) → Precedes (n' ∷ a) (m' ∷ b)
+pub moved : (n m n' m' : ℕ) (a b : List ℕ) → (n < m → n' < m') → (n ≡ m → n' ≡ m') → Precedes (n ∷ a) (m ∷ b) → Precedes (n' ∷ a) (m' ∷ b)
 moved n m n' m' a b less same (inl lt) = inl (less lt)
 moved n m n' m' a b less same (inr e) = inr (same e.0, e.1)
 
--- what is refused is no want of memory
-pub not_memory : (error : ComplexError) (fault : FileFault) → file_error error ≡ Bad fault → error ≡ complex_error.NoMemory → ⊥
-not_memory (complex_error.DuplicateLabel i j) fault e same = cc
-not_memory (complex_error.BadIncidence k why) fault e same = cc
-not_memory (complex_error.NotBoundary x z) fault e same = cc
-not_memory complex_error.NoMemory fault e same = cc
+-- what stands behind equal numbers, and behind a greater one
+pub behind : (n : ℕ) (a b : List ℕ) → Precedes (n ∷ a) (n ∷ b) → Precedes a b
+behind n a b (inl lt) = absurd (omega (arith, lt))
+behind n a b (inr e) = e.1
 
-module _ (file : Listing) (clear : IsClear file 6) where
-  -- cells without a fault refuse nothing before their parts
-  cells_clear : ((error : ComplexError) → ¬ FailsAsComplex file error) → (fault : FileFault) → number fault < 10 → ¬ Fails file fault
-  cells_clear none (DuplicateLabel i j) lt = none (complex_error.DuplicateLabel i j)
-  cells_clear none (BadIncidence k why) lt = none (complex_error.BadIncidence k why)
-  cells_clear none (NotBoundary x z) lt = none (complex_error.NotBoundary x z)
-  cells_clear none (BadSimplex k) lt = λ fails. fails
-  cells_clear none (BadAxes k) lt = λ fails. fails
-  cells_clear none (BadCube k) lt = λ fails. fails
-  cells_clear none (TooManyCells k) lt = λ fails. fails
-  cells_clear none fault lt = clear.none fault (omega arith)
+pub no_greater : (n m : ℕ) (a b : List ℕ) → Precedes (n ∷ a) (m ∷ b) → n ≤ m
+no_greater n m a b (inl lt) = omega (arith, lt)
+no_greater n m a b (inr e) = omega (arith, e.0)
 
-  pub clear_cells : ((error : ComplexError) → ¬ FailsAsComplex file error) → IsClear file 10
-  clear_cells none = record { none = cells_clear none }
+-- ---- refusals that are told as those of a library
 
-  -- what stands before a fault of the complex, with the number that it has here and there
-  module _ (m m' : ℕ) (b : List ℕ) (low : 6 ≤ m) (high : m < 10) (none : (error : ComplexError) → Precedes (complex.number error ∷ complex.place error) (m' ∷ b) → ¬ FailsAsComplex file error)
-      (less_6 : 6 < m → 1 < m') (same_6 : 6 ≡ m → 1 ≡ m') (less_7 : 7 < m → 2 < m') (same_7 : 7 ≡ m → 2 ≡ m') (less_9 : 9 < m → 3 < m') (same_9 : 9 ≡ m → 3 ≡ m') where
-    none_before : (other : FileFault) → Precedes (number other ∷ place other) (m ∷ b) → ¬ Fails file other
-    none_before (DuplicateLabel i j) p = none (complex_error.DuplicateLabel i j) (moved 6 m 1 m' (j ∷ i ∷ []) b less_6 same_6 p)
-    none_before (BadIncidence k why) p = none (complex_error.BadIncidence k why) (moved 7 m 2 m' (k ∷ why ∷ []) b less_7 same_7 p)
-    none_before (NotBoundary x z) p = none (complex_error.NotBoundary x z) (moved 9 m 3 m' (x ∷ z ∷ []) b less_9 same_9 p)
-    none_before (BadSimplex k) p = λ fails. fails
-    none_before (BadAxes k) p = λ fails. fails
-    none_before (BadCube k) p = λ fails. fails
-    none_before (TooManyCells k) p = λ fails. fails
-    none_before other p = clear.none other (elim p [ inl lt ↦ omega arith | inr same ↦ omega (arith, same.0) ])
+module _ {Error : Type 0} (rank : Error → ℕ) (at : Error → List ℕ) (Holds : Error → Type 0) (Told : FileFault → Type 0) (told : Error → FileFault)
+    (onto : (fault : FileFault) → Told fault → (error : Error) × (told error ≡ fault) × Holds error) (back : (error : Error) → Holds error → Told (told error))
+    (kept : (a b : Error) → Holds a → Holds b → StandsBefore number place (told a) (told b) → StandsBefore rank at a b) where
+  -- the first error is told as the first refusal
+  pub first_told : (error : Error) → IsFirst rank at Holds error → IsFirst number place Told (told error)
+  first_told error f = record {
+    holds = back error f.holds;
+    first = λ other before t.
+        let e = onto other t in
+        f.first e.0 (kept e.0 error e.2 f.holds (subst (λ (o : FileFault). StandsBefore number place o (told error)) (sym' e.1) before)) e.2;
+  }
+    where
+      sym' : {a b : FileFault} → a ≡ b → b ≡ a
+      sym' e = cc
 
-  -- the first fault of the complex is the first refusal
-  pub first_cells : (error : ComplexError) → complex.IsFirstFault (scalars_of file) (complex_of file) error → (fault : FileFault) → file_error error ≡ Bad fault → IsFirstRefusal file fault
-  first_cells (complex_error.DuplicateLabel i j) first fault e =
-      let same : DuplicateLabel i j ≡ fault = cc in
-      subst (IsFirstRefusal file) same (record {
-        holds = first.holds;
-        first = none_before 6 1 (j ∷ i ∷ []) (omega arith) (omega arith) first.first (λ h. omega arith) (λ h. refl) (λ h. omega arith) (λ h. omega arith) (λ h. omega arith) (λ h. omega arith);
-      })
-  first_cells (complex_error.BadIncidence k why) first fault e =
-      let same : BadIncidence k why ≡ fault = cc in
-      subst (IsFirstRefusal file) same (record {
-        holds = first.holds;
-        first = none_before 7 2 (k ∷ why ∷ []) (omega arith) (omega arith) first.first (λ h. omega arith) (λ h. omega arith) (λ h. omega arith) (λ h. refl) (λ h. omega arith) (λ h. omega arith);
-      })
-  first_cells (complex_error.NotBoundary x z) first fault e =
-      let same : NotBoundary x z ≡ fault = cc in
-      subst (IsFirstRefusal file) same (record {
-        holds = first.holds;
-        first = none_before 9 3 (x ∷ z ∷ []) (omega arith) (omega arith) first.first (λ h. omega arith) (λ h. omega arith) (λ h. omega arith) (λ h. omega arith) (λ h. omega arith) (λ h. refl);
-      })
-  first_cells complex_error.NoMemory first fault e = absurd first.holds
+  pub none_told : ((error : Error) → ¬ Holds error) → (fault : FileFault) → ¬ Told fault
+  none_told none fault t = let e = onto fault t in none e.0 e.2
+
+-- ---- the complex
+
+-- its refusals have the numbers from 5 to 9
+numbered : (F : Arithmetic) (listed : Complex) (fault : FileFault) → FailsIn F listed fault → (4 < number fault) × (number fault < 10)
+numbered F (lefschetz cells incidences) (BadLabel k) f = (omega arith, omega arith)
+numbered F (lefschetz cells incidences) (DuplicateLabel i j) f = (omega arith, omega arith)
+numbered F (lefschetz cells incidences) (BadIncidence k why) f = (omega arith, omega arith)
+numbered F (lefschetz cells incidences) (NotBoundary x z) f = (omega arith, omega arith)
+numbered F (lefschetz cells incidences) fault f = absurd f
+numbered F (simplicial vertices simplices) (BadLabel k) f = (omega arith, omega arith)
+numbered F (simplicial vertices simplices) (DuplicateLabel i j) f = (omega arith, omega arith)
+numbered F (simplicial vertices simplices) (BadSimplex k) f = (omega arith, omega arith)
+numbered F (simplicial vertices simplices) (TooManyCells least) f = (omega arith, omega arith)
+numbered F (simplicial vertices simplices) fault f = absurd f
+numbered F (cubical axes cubes) (BadAxes told) f = (omega arith, omega arith)
+numbered F (cubical axes cubes) (BadCube k) f = (omega arith, omega arith)
+numbered F (cubical axes cubes) (TooManyCells least) f = (omega arith, omega arith)
+numbered F (cubical axes cubes) fault f = absurd f
+
+module _ (file : Listing) where
+  fails_of : (fault : FileFault) → FailsIn (scalars_of file) file.complex fault → Fails file fault
+  fails_of (BadLabel k) f = f
+  fails_of (DuplicateLabel i j) f = f
+  fails_of (BadIncidence k why) f = f
+  fails_of (BadSimplex k) f = f
+  fails_of (BadAxes axes) f = f
+  fails_of (BadCube k) f = f
+  fails_of (TooManyCells least) f = f
+  fails_of (NotBoundary x z) f = f
+  fails_of fault f = absurd (omega (arith, (numbered (scalars_of file) file.complex fault f).0, (numbered (scalars_of file) file.complex fault f).1))
+
+  fails_in : (fault : FileFault) → 4 < number fault → number fault < 10 → Fails file fault → FailsIn (scalars_of file) file.complex fault
+  fails_in (BadLabel k) low high f = f
+  fails_in (DuplicateLabel i j) low high f = f
+  fails_in (BadIncidence k why) low high f = f
+  fails_in (BadSimplex k) low high f = f
+  fails_in (BadAxes axes) low high f = f
+  fails_in (BadCube k) low high f = f
+  fails_in (TooManyCells least) low high f = f
+  fails_in (NotBoundary x z) low high f = f
+  fails_in fault low high f = absurd (omega (arith, low, high))
+
+  module _ (clear : IsClear file 5) where
+    -- a complex without a refusal refuses nothing before the parts
+    pub clear_complex : ((fault : FileFault) → ¬ FailsIn (scalars_of file) file.complex fault) → IsClear file 10
+    clear_complex none = record {
+      none = λ fault lt f. elim (cases_lt (number fault) 5) [ inl below ↦ clear.none fault below f | inr above ↦ none fault (fails_in fault (omega (arith, above)) lt f) ];
+    }
+
+    -- the first refusal of the complex is the first of all
+    pub first_complex : (fault : FileFault) → IsFirstIn (scalars_of file) file.complex fault → IsFirstRefusal file fault
+    first_complex fault f = record {
+      holds = fails_of fault f.holds;
+      first = λ other before h.
+          let high = (numbered (scalars_of file) file.complex fault f.holds).1 in
+          let le = no_greater (number other) (number fault) (place other) (place fault) before in
+          elim (cases_lt (number other) 5) [ inl below ↦ clear.none other below h | inr above ↦ f.first other before (fails_in other (omega (arith, above)) (omega (arith, high, le)) h) ];
+    }
+
+-- ---- the parts
 
 module _ (file : Listing) where
   of_unknown : (Q : List ℕ → Type 0) → ((l p : ℕ) → Q (l ∷ p ∷ []) → ¬ Fails file (UnknownCell l p)) → (other : FileFault) → number other ≡ 10 → Q (place other) → ¬ Fails file other
@@ -116,7 +151,7 @@ module _ (file : Listing) (clear : IsClear file 11) where
     no_part_before other p = clear.none other (omega arith)
 
   -- the first fault of parts whose cells are known is the first refusal
-  pub first_parts : ((l p : ℕ) → ¬ FailsAsParts file (part.Unknown l p)) → (error : PartError) → parts.IsFirstFault (direct_faces file) (parts_of file) error → (fault : FileFault) → part_error error ≡ Bad fault → IsFirstRefusal file fault
+  pub first_parts : ((l p : ℕ) → ¬ FailsAsParts file (part.Unknown l p)) → (error : PartError) → IsFirst parts.number parts.place (FailsAsParts file) error → (fault : FileFault) → part_error error ≡ Bad fault → IsFirstRefusal file fault
   first_parts known (part.Unknown l p) first fault e = absurd (known l p first.holds)
   first_parts known (part.Repeated l p) first fault e =
       let same : RepeatedCell l p ≡ fault = cc in
@@ -127,11 +162,7 @@ module _ (file : Listing) (clear : IsClear file 11) where
   first_parts known (part.Gap k x y z) first fault e =
       let same : NotLocallyClosed k x y z ≡ fault = cc in
       subst (IsFirstRefusal file) same (record { holds = first.holds; first = no_part_before 13 4 (k ∷ x ∷ y ∷ z ∷ []) refl (omega arith) first.first })
-  first_parts known part.NoMemory first fault e = absurd first.holds
-
--- what the limits say where they aren't passed
-pub few_labels : (file : Listing) (n : ℕ) → 4 < n → IsClear file n → length file.labels ≤ 20000
-few_labels file n lt before = elim (cases_lt 20000 (length file.labels)) [ inl more ↦ absurd (before.none (TooMany 1 20001) lt (inl (refl, refl, more))) | inr few ↦ few ]
-
-pub few_incidences : (file : Listing) (n : ℕ) → 4 < n → IsClear file n → length file.incidences ≤ 400000
-few_incidences file n lt before = elim (cases_lt 400000 (length file.incidences)) [ inl more ↦ absurd (before.none (TooMany 2 400001) lt (inr (inl (refl, refl, more)))) | inr few ↦ few ]
+  first_parts known part.NoMemory first fault e = absurd (no_memory first.holds)
+    where
+      no_memory : ¬ FailsAsParts file part.NoMemory
+      no_memory f = f.2

@@ -1,6 +1,8 @@
 pub mod File
 pub mod Meaning
+pub mod Limits
 pub mod Listing
+pub mod RefusalOrder
 pub mod Refusals
 pub mod Told
 pub mod Places

@@ -1,81 +1,46 @@
 -- The refusals of what a file lists. Each says of one place that something is wrong there.
+--     FailsIn F complex fault      of labels, incidences, simplices, axes, cubes and the boundary: the complex can't be made of what is listed
 --     Fails file fault             the sentence of the refusal, at its place
---     number fault, place fault    where it stands among the refusals
---     IsFirstRefusal file fault    it fails, and none that fails stands before it
+--     IsFirstIn F complex fault    of those of the complex it fails, and none that fails stands before it
+--     IsFirstRefusal file fault    of all it fails, and none that fails stands before it
 --     IsClear file n               none with a number below n fails
--- Labels, incidences and the boundary are refused as a complex is, and parts as a partition is: those sentences are conley_lefschetz's and conley_mvf's.
-use Rattle.std.specs.Prelude.{◌≡◌, ◌⊎◌, ◌+◌, ◌<◌, ◌&&◌, ◌==◌, nat_lt, nat_le, not, ℕ, List, [], ◌∷◌, Bool, false, None, Any, length, slice_index_or}
+-- A complex is refused as the libraries of complexes refuse it, and parts as a partition is: those sentences are theirs.
+use Rattle.std.specs.Prelude.{◌≡◌, ◌⊎◌, ◌+◌, ◌<◌, ◌&&◌, ◌==◌, nat_lt, nat_le, not, ℕ, List, [], Bool, false, None, Any, length, slice_index_or}
 use Rattle.std.specs.List.{list_all}
+use Rattle.conley_field.specs.Arithmetic.{Arithmetic}
 use Rattle.conley_field.specs.Prime.{is_prime_order}
 use Rattle.conley_first.specs.First as first
-use Rattle.conley_lefschetz.specs.Fault as complex
-use Rattle.conley_lefschetz.specs.declared.error.ComplexError.{ComplexError}
-use Rattle.conley_lefschetz.specs.declared.error.ComplexError.TheVariants as complex_error
-use Rattle.conley_mvf.specs.Fault as parts
+use Rattle.conley_lefschetz.specs.Complex.{Layout}
+use Rattle.conley_lefschetz.specs.Fault as of_cells
+use Rattle.conley_lefschetz.specs.declared.error.ComplexError.TheVariants as cells_error
+use Rattle.conley_simplicial.specs.Fault as of_simplices
+use Rattle.conley_simplicial.specs.declared.error.SimplicialError.TheVariants as simplices_error
+use Rattle.conley_cubical.specs.Fault as of_cubes
+use Rattle.conley_cubical.specs.declared.error.CubicalError.TheVariants as cubes_error
+use Rattle.conley_mvf.specs.Fault as of_parts
 use Rattle.conley_mvf.specs.declared.error.PartError.{PartError}
 use Rattle.conley_mvf.specs.declared.error.PartError.TheVariants as part_error
-use Rattle.conley_input.specs.Listing.{Listing, scalars_of, complex_of, cell_of, parts_of, direct_faces}
+use Rattle.conley_input.specs.File.{Complex, lefschetz, simplicial, cubical}
+use Rattle.conley_input.specs.RefusalOrder.{number, place}
+use Rattle.conley_input.specs.Limits.{most_cells, most_listed, most_dimension, most_bytes, most_generated}
+use Rattle.conley_input.specs.Listing.{Listing, scalars_of, labels_of, dims_of, count_of, cell_listing, IsComplexIn, cell_of, parts_in}
 use Rattle.conley_input.specs.declared.error.FileFault.{FileFault}
 use Rattle.conley_input.specs.declared.error.FileFault.TheVariants.{NotJson, BadShape, NotBuilt, UnknownField, TooMany, BadLabel, DuplicateLabel, BadIncidence, BadSimplex, BadAxes, BadCube, TooManyCells, NotBoundary, UnknownCell, RepeatedCell, EmptyPart, NotLocallyClosed}
 
--- ---- the order of refusals
-
--- the number of a refusal; one for input that isn't built comes after those of the form
-abbrev pub number : FileFault → ℕ
-number NotJson = 1
-number (BadShape member) = 2
-number NotBuilt = 2
-number (UnknownField order) = 3
-number (TooMany limit least) = 4
-number (BadLabel k) = 5
-number (DuplicateLabel i j) = 6
-number (BadIncidence k why) = 7
-number (BadSimplex k) = 8
-number (BadAxes axes) = 8
-number (BadCube k) = 8
-number (TooManyCells least) = 8
-number (NotBoundary x z) = 9
-number (UnknownCell list at) = 10
-number (RepeatedCell list at) = 11
-number (EmptyPart k) = 12
-number (NotLocallyClosed k x y z) = 13
-
--- where it stands among those of its number
-abbrev pub place : FileFault → List ℕ
-place NotJson = []
-place (BadShape member) = member ∷ []
-place NotBuilt = []
-place (UnknownField order) = []
-place (TooMany limit least) = limit ∷ []
-place (BadLabel k) = k ∷ []
-place (DuplicateLabel i j) = j ∷ i ∷ []
-place (BadIncidence k why) = k ∷ why ∷ []
-place (BadSimplex k) = 1 ∷ k ∷ []
-place (BadAxes axes) = 2 ∷ axes ∷ []
-place (BadCube k) = 3 ∷ k ∷ []
-place (TooManyCells least) = 4 ∷ least ∷ []
-place (NotBoundary x z) = x ∷ z ∷ []
-place (UnknownCell list at) = list ∷ at ∷ []
-place (RepeatedCell list at) = list ∷ at ∷ []
-place (EmptyPart k) = k ∷ []
-place (NotLocallyClosed k x y z) = k ∷ x ∷ y ∷ z ∷ []
-
--- ---- words of the sentences
-
--- no cell has the label at this list and place
-abbrev pub IsUnknown : List (List ℕ) → List (List (List ℕ)) → ℕ → ℕ → Type 0
-IsUnknown labels parts list at = (at < length (slice_index_or parts list [])) × (cell_of labels (slice_index_or (slice_index_or parts list []) at []) ≡ None)
+-- ---- limits
 
 -- a row of the table of limits: its number, the most, and whether that is passed
 abbrev pub PassesRow : ℕ → ℕ → Type 0 → ℕ → ℕ → Type 0
 PassesRow row most passes limit least = (limit ≡ row) × (least ≡ most + 1) × passes
 
-abbrev pub PassesLimit : Listing → ℕ → ℕ → Type 0
-PassesLimit file limit least =
-    PassesRow 1 20000 (20000 < length file.labels) limit least
-    ⊎ PassesRow 2 400000 (400000 < length file.incidences) limit least
-    ⊎ PassesRow 4 15 (Any (λ dim. 15 < dim) file.dims) limit least
-    ⊎ PassesRow 5 64 (Any (λ label. 64 < length label) file.labels) limit least
+abbrev pub PassesLimit : Complex → ℕ → ℕ → Type 0
+PassesLimit listed limit least =
+    PassesRow 1 most_cells (most_cells < length (labels_of listed)) limit least
+    ⊎ PassesRow 2 most_listed (most_listed < count_of listed) limit least
+    ⊎ PassesRow 4 most_dimension (Any (λ dim. most_dimension < dim) (dims_of listed)) limit least
+    ⊎ PassesRow 5 most_bytes (Any (λ label. most_bytes < length label) (labels_of listed)) limit least
+
+-- ---- the complex
 
 -- a byte of a label: neither below 33 nor 127
 abbrev pub is_label_byte : ℕ → Bool
@@ -84,35 +49,59 @@ is_label_byte b = nat_le 33 b && not (b == 127)
 abbrev pub is_label : List ℕ → Bool
 is_label label = nat_lt 0 (length label) && list_all is_label_byte label
 
--- the cells and incidences make no complex over the field that the file names
-abbrev pub FailsAsComplex : Listing → ComplexError → Type 0
-FailsAsComplex file error = complex.Fails (scalars_of file) (complex_of file) error
+-- each kind has refusals of its own
+abbrev pub FailsIn : Arithmetic → Complex → FileFault → Type 0
+FailsIn F (lefschetz cells incidences) (BadLabel k) = (k < length (labels_of (lefschetz cells incidences))) × (is_label (slice_index_or (labels_of (lefschetz cells incidences)) k []) ≡ false)
+FailsIn F (lefschetz cells incidences) (DuplicateLabel i j) = of_cells.Fails F (cell_listing F cells incidences) (cells_error.DuplicateLabel i j)
+FailsIn F (lefschetz cells incidences) (BadIncidence k why) = of_cells.Fails F (cell_listing F cells incidences) (cells_error.BadIncidence k why)
+FailsIn F (lefschetz cells incidences) (NotBoundary x z) = of_cells.Fails F (cell_listing F cells incidences) (cells_error.NotBoundary x z)
+FailsIn F (simplicial vertices simplices) (BadLabel k) = of_simplices.Fails vertices simplices most_generated (simplices_error.BadLabel k)
+FailsIn F (simplicial vertices simplices) (DuplicateLabel i j) = of_simplices.Fails vertices simplices most_generated (simplices_error.DuplicateLabel i j)
+FailsIn F (simplicial vertices simplices) (BadSimplex k) = of_simplices.Fails vertices simplices most_generated (simplices_error.BadSimplex k)
+FailsIn F (simplicial vertices simplices) (TooManyCells least) = of_simplices.Fails vertices simplices most_generated (simplices_error.TooManyCells least)
+FailsIn F (cubical axes cubes) (BadAxes told) = of_cubes.Fails axes cubes most_generated (cubes_error.BadAxes told)
+FailsIn F (cubical axes cubes) (BadCube k) = of_cubes.Fails axes cubes most_generated (cubes_error.BadCube k)
+FailsIn F (cubical axes cubes) (TooManyCells least) = of_cubes.Fails axes cubes most_generated (cubes_error.TooManyCells least)
+FailsIn F listed fault = ⊥
 
--- the listed parts make no partition of its cells
+abbrev pub IsFirstIn : Arithmetic → Complex → FileFault → Type 0
+IsFirstIn F listed fault = first.IsFirst number place (FailsIn F listed) fault
+
+-- ---- the parts
+
+-- no cell has the label at this list and place
+abbrev pub IsUnknown : List (List ℕ) → List (List (List ℕ)) → ℕ → ℕ → Type 0
+IsUnknown labels parts list at = (at < length (slice_index_or parts list [])) × (cell_of labels (slice_index_or (slice_index_or parts list []) at []) ≡ None)
+
+-- no cell of the complex of the file has the label
+abbrev pub IsUnknownIn : Listing → ℕ → ℕ → Type 0
+IsUnknownIn file list at = (c : Layout) × IsComplexIn file c × IsUnknown c.labels file.parts list at
+
+-- the listed parts make no partition of the cells of the complex of the file
 abbrev pub FailsAsParts : Listing → PartError → Type 0
-FailsAsParts file error = parts.Fails (direct_faces file) (parts_of file) error
+FailsAsParts file error = (c : Layout) × IsComplexIn file c × of_parts.Fails c.faces (parts_in c.labels file.parts) error
 
 -- ---- the table
 
--- those of the form, and those of generated cells, are no matter of a listing
+-- those of the form are no matter of a listing
 abbrev pub Fails : Listing → FileFault → Type 0
-Fails file (UnknownField order) = (file.scalars ≡ order) × (is_prime_order order ≡ false)
-Fails file (TooMany limit least) = PassesLimit file limit least
-Fails file (BadLabel k) = (k < length file.labels) × (is_label (slice_index_or file.labels k []) ≡ false)
-Fails file (DuplicateLabel i j) = FailsAsComplex file (complex_error.DuplicateLabel i j)
-Fails file (BadIncidence k why) = FailsAsComplex file (complex_error.BadIncidence k why)
-Fails file (NotBoundary x z) = FailsAsComplex file (complex_error.NotBoundary x z)
-Fails file (UnknownCell list at) = IsUnknown file.labels file.parts list at
-Fails file (RepeatedCell list at) = FailsAsParts file (part_error.Repeated list at)
-Fails file (EmptyPart k) = FailsAsParts file (part_error.EmptyPart k)
-Fails file (NotLocallyClosed k x y z) = FailsAsParts file (part_error.Gap k x y z)
 Fails file NotJson = ⊥
 Fails file (BadShape member) = ⊥
 Fails file NotBuilt = ⊥
-Fails file (BadSimplex k) = ⊥
-Fails file (BadAxes axes) = ⊥
-Fails file (BadCube k) = ⊥
-Fails file (TooManyCells least) = ⊥
+Fails file (UnknownField order) = (file.scalars ≡ order) × (is_prime_order order ≡ false)
+Fails file (TooMany limit least) = PassesLimit file.complex limit least
+Fails file (BadLabel k) = FailsIn (scalars_of file) file.complex (BadLabel k)
+Fails file (DuplicateLabel i j) = FailsIn (scalars_of file) file.complex (DuplicateLabel i j)
+Fails file (BadIncidence k why) = FailsIn (scalars_of file) file.complex (BadIncidence k why)
+Fails file (BadSimplex k) = FailsIn (scalars_of file) file.complex (BadSimplex k)
+Fails file (BadAxes axes) = FailsIn (scalars_of file) file.complex (BadAxes axes)
+Fails file (BadCube k) = FailsIn (scalars_of file) file.complex (BadCube k)
+Fails file (TooManyCells least) = FailsIn (scalars_of file) file.complex (TooManyCells least)
+Fails file (NotBoundary x z) = FailsIn (scalars_of file) file.complex (NotBoundary x z)
+Fails file (UnknownCell list at) = IsUnknownIn file list at
+Fails file (RepeatedCell list at) = FailsAsParts file (part_error.Repeated list at)
+Fails file (EmptyPart k) = FailsAsParts file (part_error.EmptyPart k)
+Fails file (NotLocallyClosed k x y z) = FailsAsParts file (part_error.Gap k x y z)
 
 abbrev pub IsFirstRefusal : Listing → FileFault → Type 0
 IsFirstRefusal file fault = first.IsFirst number place (Fails file) fault

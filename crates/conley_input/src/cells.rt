@@ -1,41 +1,42 @@
-//! The complex of a file that lists its cells.
+//! The complex of listed cells.
 
-ghost use Rattle.std.specs.Prelude.{◌≡◌, ◌≢◌, ◌≤◌, ℕ, All, IfOk, IsErrOf, length, map};
+ghost use Rattle.std.specs.Prelude.{◌≡◌, ◌≢◌, ◌≤◌, ◌<◌, ◌^◌, ℕ, All, IfOk, OnOk, IsErrOf, length, map, false};
 ghost use Rattle.conley_field.specs.AnyField.{arithmetic_of};
-ghost use Rattle.conley_field.specs.Prime.{residues};
 ghost use Rattle.conley_lefschetz.specs.Listing.{bytes_of};
 ghost use Rattle.conley_lefschetz.specs.Fault.{IsFirstFault};
-ghost use Rattle.conley_lefschetz.specs.Complex.{IsComplexOf};
+ghost use Rattle.conley_lefschetz.specs.Complex.{IsLayout, IsComplexOf};
 ghost use Rattle.conley_input.specs.Errors as spec;
+ghost use Rattle.conley_input.specs.File as file;
+ghost use Rattle.conley_input.specs.Limits.{most_dimension};
 ghost use Rattle.conley_input.specs.Listing as listed;
-ghost use Rattle.conley_input.specs.ListingMeaning.{meaning_of};
-ghost use Rattle.conley_input.specs.Meaning.{texts};
-ghost use Rattle.conley_input.specs.Problem.{IsComplexIn};
-ghost use Rattle.conley_input.specs.Refusals.{IsFirstRefusal, IsClear};
+ghost use Rattle.conley_input.specs.Listing.{IsComplexFor, dims_of};
+ghost use Rattle.conley_input.specs.Meaning.{texts, cells_of, complex_of};
+ghost use Rattle.conley_input.specs.Refusals.{FailsIn, IsFirstIn};
 
 use crate::error::{FileFault, InputError};
-use crate::limits::{refuse_labels, refuse_sizes};
-use crate::listing::Listing;
+use crate::labels::first_bad_label;
 use conley_field::{AnyField, Field, Scalar};
 use conley_lefschetz::{Complex, ComplexError};
 use std::alloc::{AllocError, Global};
 
-/// The field of the order that the file names.
-fn field_of(listing: &Listing) -> Result<AnyField, InputError>
-    requires before { IsClear (meaning_of listing.now) 3 }
-    ensures ok { IfOk result (λ _. IsClear (meaning_of listing.now) 4) }
-    ensures field { IfOk result (λ field. arithmetic_of field ≡ residues listing.now.scalars) }
-    ensures err { (fault : _) → IsErrOf result (InputError.Bad fault) → IsFirstRefusal (meaning_of listing.now) fault }
+/// The labels and the dimensions of cells.
+fn split(alloc: Global, cells: Vec<(String, u32)>) -> Result<(Vec<String>, Vec<u32>), AllocError>
+    ensures labels { IfOk result (λ pair. texts pair.0 ≡ map (λ cell. cell.0) (cells_of cells)) }
+    ensures same { IfOk result (λ pair. length pair.1.items ≡ length pair.0.items) }
+    ensures dims { IfOk result (λ pair. pair.1.items ≡ map (λ cell. cell.1) (cells_of cells)) }
 {
-    match AnyField::of(listing.scalars) {
-        Some(field) => Ok(field),
-        None => Err(InputError::Bad(FileFault::UnknownField(listing.scalars))),
+    let mut labels = Vec::new(alloc);
+    let mut dims = Vec::new(alloc);
+    for (label, dim) in cells {
+        labels.push(label)?;
+        dims.push(dim)?;
     }
+    Ok((labels, dims))
 }
 
 /// The dimensions, each of which fits a byte.
 fn narrow(alloc: Global, dims: &[u32]) -> Result<Vec<u8>, AllocError>
-    requires { All (λ dim. dim ≤ 15) dims.now }
+    requires { All (λ dim. dim ≤ most_dimension) dims.now }
     ensures { IfOk result (λ narrowed. narrowed.items ≡ dims.now) }
 {
     let mut narrowed = Vec::new(alloc);
@@ -69,7 +70,7 @@ fn with_scalars(
 }
 
 /// The complex of cells and incidences, or its first fault.
-fn complex_of(
+fn complex_of_cells(
     alloc: Global,
     field: AnyField,
     labels: Vec<String>,
@@ -77,7 +78,7 @@ fn complex_of(
     incidences: &[(u32, u32, i64)],
 ) -> Result<Complex<AnyField>, ComplexError>
     requires count { length labels.items ≡ length dims.now }
-    requires dims { All (λ dim. dim ≤ 15) dims.now }
+    requires dims { All (λ dim. dim ≤ most_dimension) dims.now }
     ensures field { IfOk result (λ c. c.0 ≡ field) }
     ensures ok { IfOk result (λ c. IsComplexOf (arithmetic_of field) (record { labels = bytes_of labels.items; dims = dims.now; incidences = listed.with_scalars (arithmetic_of field) incidences.now }) c.1) }
     ensures err { (error : _) → IsErrOf result error → error ≢ ComplexError.NoMemory →
@@ -89,8 +90,8 @@ fn complex_of(
 }
 
 /// The refusal of a file whose cells make no complex.
-fn file_error(error: ComplexError) -> InputError
-    ensures { result ≡ spec.file_error error }
+fn cells_error(error: ComplexError) -> InputError
+    ensures { result ≡ spec.cells_error error }
 {
     match error {
         ComplexError::DuplicateLabel(i, j) => InputError::Bad(FileFault::DuplicateLabel(i, j)),
@@ -100,32 +101,30 @@ fn file_error(error: ComplexError) -> InputError
     }
 }
 
-/// The complex that a file lists, and the labels of its parts; or the first refusal before those of parts.
-pub(crate) fn read_cells(
+/// The complex of listed cells, or the first refusal of them.
+pub(crate) fn read_listed(
     alloc: Global,
-    listing: Listing,
-) -> Result<(Complex<AnyField>, Vec<Vec<String>>), InputError>
-    requires { length listing.dims.items ≡ length listing.labels.items }
-    ensures clear { IfOk result (λ _. IsClear (meaning_of listing) 10) }
-    ensures complex { IfOk result (λ pair. IsComplexIn (meaning_of listing) (arithmetic_of pair.0.0).order pair.0.1) }
-    ensures parts { IfOk result (λ pair. map texts pair.1.items ≡ (meaning_of listing).parts) }
-    ensures err { (fault : _) → IsErrOf result (InputError.Bad fault) → IsFirstRefusal (meaning_of listing) fault }
+    field: AnyField,
+    cells: Vec<(String, u32)>,
+    incidences: &[(u32, u32, i64)],
+) -> Result<Complex<AnyField>, InputError>
+    requires count { length cells.items < 2 ^ 32 }
+    requires dims { All (λ dim. dim ≤ most_dimension) (map (λ cell. cell.1) (cells_of cells)) }
+    ensures field { IfOk result (λ c. c.0 ≡ field) }
+    ensures laws { IfOk result (λ c. IsLayout (arithmetic_of field) c.1) }
+    ensures complex { IfOk result (λ c. IsComplexFor (arithmetic_of field) (file.lefschetz (cells_of cells) incidences.now) c.1) }
+    ensures accepted { OnOk result ((fault : _) → ¬ FailsIn (arithmetic_of field) (file.lefschetz (cells_of cells) incidences.now) fault) }
+    ensures err { (fault : _) → IsErrOf result (InputError.Bad fault) → IsFirstIn (arithmetic_of field) (file.lefschetz (cells_of cells) incidences.now) fault }
 {
-    let field = field_of(&listing)?;
-    refuse_sizes(&listing)?;
-    refuse_labels(&listing)?;
-    let Listing {
-        labels,
-        dims,
-        incidences,
-        parts,
-        ..
-    } = listing;
-    match complex_of(alloc, field, labels, &dims, &incidences) {
+    let (labels, dims) = split(alloc, cells)?;
+    if let Some(k) = first_bad_label(&labels) {
+        return Err(InputError::Bad(FileFault::BadLabel(k as u32)));
+    }
+    match complex_of_cells(alloc, field, labels, &dims, incidences) {
         Ok(complex) => {
             let _laws = complex.count();
-            Ok((complex, parts))
+            Ok(complex)
         }
-        Err(error) => Err(file_error(error)),
+        Err(error) => Err(cells_error(error)),
     }
 }

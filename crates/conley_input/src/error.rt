@@ -14,7 +14,7 @@ pub enum FileFault {
     NotJson,
     /// E2: the member with this number is missing or has another form.
     BadShape(u8),
-    /// E0: the file is of a kind that can't be read yet: its complex isn't listed cell by cell, its field isn't given whole, or it names sets.
+    /// E0: the file is of a kind that can't be read yet: its field isn't given whole, or it names sets.
     NotBuilt,
     /// E3: no field has this order.
     UnknownField(u32),

@@ -6,7 +6,7 @@ ghost use Rattle.conley_mvf.specs.Partition.{IsWhole, IsMultivectorField};
 ghost use Rattle.conley_input.specs.Meaning.{texts, bytes_of};
 ghost use Rattle.conley_input.specs.Errors as errors;
 ghost use Rattle.conley_input.specs.Listing as spec;
-ghost use Rattle.conley_input.specs.Listing.{cell_of, numbers_of, parts_of};
+ghost use Rattle.conley_input.specs.Listing.{cell_of, numbers_of, parts_in};
 ghost use Rattle.conley_input.specs.Places.{FindsFirst, FindsFirstPlace};
 ghost use Rattle.conley_input.specs.Problem.{IsListedAs};
 ghost use Rattle.conley_input.specs.Refusals.{Fails, IsUnknown, IsFirstRefusal, IsClear};
@@ -119,7 +119,7 @@ pub(crate) fn read_parts(
     parts: &[Vec<String>],
 ) -> Result<Partition, InputError>
     ensures ok { (file : spec.Listing) → IsListedAs file complex.now.1 (map texts parts.now) → IsClear file 10 →
-        IfOk result (λ partition. ((fault : _) → ¬ Fails file fault) × IsWhole (parts_of file) partition) }
+        IfOk result (λ partition. ((fault : _) → ¬ Fails file fault) × IsWhole (parts_in complex.now.1.labels file.parts) partition) }
     ensures field { IfOk result (IsMultivectorField complex.now.1.faces) }
     ensures err { (file : spec.Listing) → IsListedAs file complex.now.1 (map texts parts.now) → IsClear file 10 →
         (fault : _) → IsErrOf result (InputError.Bad fault) → IsFirstRefusal file fault }

@@ -1,6 +1,6 @@
 //! A problem from the bytes of a file.
 
-ghost use Rattle.std.specs.Prelude.{◌≡◌, ℕ, length, Some, None, Ok, Err, IfOk, IsErrOf, map, option_map, string_bytes};
+ghost use Rattle.std.specs.Prelude.{◌≡◌, ℕ, Some, None, Ok, Err, IfOk, IsErrOf, map, option_map, string_bytes};
 ghost use Rattle.serde_json.specs.View.{view};
 ghost use Rattle.conley_json.specs.Json.{json_of};
 ghost use Rattle.conley_input.specs.ListingMeaning as listed;
@@ -8,7 +8,7 @@ ghost use Rattle.conley_input.specs.Problem.{form_of, Reads, Refuses, ReadsListi
 ghost use Rattle.conley_input.specs.Refusals.{IsFirstRefusal};
 ghost use Rattle.conley_input.specs.ProblemMeaning.{meaning_of};
 
-use crate::cells::read_cells;
+use crate::complex::read_complex;
 use crate::error::{FileFault, InputError};
 use crate::file::{FileError, ProblemFile};
 use crate::listing::Listing;
@@ -42,7 +42,6 @@ fn read_value(alloc: Global, bytes: &[u8]) -> Result<Value, InputError>
 /// What the bytes list, or the refusal of their form.
 fn read_listing(alloc: Global, bytes: &[u8]) -> Result<Listing, InputError>
     ensures ok { IfOk result (λ listing. form_of bytes.now ≡ Ok (listed.meaning_of listing)) }
-    ensures dims { IfOk result (λ listing. length listing.dims.items ≡ length listing.labels.items) }
     ensures err { (fault : _) → IsErrOf result (InputError.Bad fault) → form_of bytes.now ≡ Err fault }
 {
     let value = read_value(alloc, bytes)?;
@@ -53,7 +52,7 @@ fn read_listing(alloc: Global, bytes: &[u8]) -> Result<Listing, InputError>
         }
         Err(FileError::NoMemory) => return Err(InputError::NoMemory),
     };
-    match Listing::from_file(alloc, file)? {
+    match Listing::from_file(file) {
         Some(listing) => Ok(listing),
         None => Err(InputError::Bad(FileFault::NotBuilt)),
     }
@@ -61,12 +60,11 @@ fn read_listing(alloc: Global, bytes: &[u8]) -> Result<Listing, InputError>
 
 /// The problem that a listing stands for, or its first refusal.
 fn build(alloc: Global, listing: Listing) -> Result<Problem, InputError>
-    requires { length listing.dims.items ≡ length listing.labels.items }
     ensures ok { IfOk result (λ problem. ReadsListing (listed.meaning_of listing) (meaning_of problem)) }
     ensures sound { IfOk result (λ problem. IsSound (meaning_of problem)) }
     ensures err { (fault : _) → IsErrOf result (InputError.Bad fault) → IsFirstRefusal (listed.meaning_of listing) fault }
 {
-    let (complex, labels) = read_cells(alloc, listing)?;
+    let (complex, labels) = read_complex(alloc, listing)?;
     let partition = read_parts(alloc, &complex, &labels)?;
     let _laws = complex.count();
     let _numbers = partition.count();

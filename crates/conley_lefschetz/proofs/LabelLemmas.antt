@@ -1,5 +1,5 @@
 -- Numbering labels one after another
-use Rattle.std.proofs.Common.{◌≡◌, inl, inr, ◌<◌, ◌≤◌, ℕ, List, [], ◌∷◌, ◌++◌, Bool, true, false, Some, None, String, string_bytes, length, get_or, refl, sym, ◌∙◌, ap, arith, cond}
+use Rattle.std.proofs.Common.{◌≡◌, inl, inr, ◌+◌, ◌<◌, ◌≤◌, ℕ, List, [], ◌∷◌, ◌++◌, Bool, true, false, Some, None, String, string_bytes, length, take, drop, get_or, refl, sym, ◌∙◌, ap, subst, arith, cond}
 use Rattle.std.specs.Prelude.{not, bytes_eq}
 use Rattle.std.specs.List.{list_any, position_or_len, position}
 use Rattle.std.specs.String.{string_eq}
@@ -7,13 +7,13 @@ use Rattle.std.specs.declared.alloc.Global.{Global}
 use Rattle.std.proofs.lemmas.Bool.{cases_lt, false≢true, true≢false}
 use Rattle.std.proofs.lemmas.Bool.Decides.{nat_tests}
 use Rattle.std.proofs.lemmas.Slice.Eq.{bytes_eq-Decides}
-use Rattle.std.proofs.lemmas.List.{get_or-map, map-append, get_or_append_left, length-append}
+use Rattle.std.proofs.lemmas.List.{get_or-map, map-append, get_or_append_left, length-append, length-take-le, take_more, take-append-drop, drop_more}
 use Rattle.std.proofs.Math.Seq.{get_or-append_seam}
 use Rattle.std.proofs.lemmas.List.Folds.{list_any_at}
 use Rattle.std.proofs.lemmas.List.Quantifiers.{position-Some}
 use Rattle.std.proofs.lemmas.List.Sums.{fails_before_first}
 use Rattle.conley_lefschetz.specs.Making.{NumbersLabel}
-use Rattle.conley_lefschetz.specs.Fault.{IsDuplicate}
+use Rattle.conley_lefschetz.specs.Fault.{IsDuplicate, FindsEqual}
 use Rattle.conley_first.specs.First.{Precedes}
 use Rattle.conley_lefschetz.specs.Listing.{bytes_of}
 use Rattle.conley_lefschetz.proofs.ColumnLemmas.{position_missed}
@@ -99,3 +99,21 @@ label_of (key ∷ rest) label k found = label_found (key ∷ rest) label key k f
 pub no_label : (keys : List (String Global)) (label : List ℕ) → position (λ (key : String Global). bytes_eq label (string_bytes key)) keys ≡ None → (k : ℕ) → k < length (bytes_of keys) → get_or (bytes_of keys) k [] ≡ label → ⊥
 no_label [] label missed k lt same = absurd (omega (arith, lt))
 no_label (key ∷ rest) label missed k lt same = label_missed (key ∷ rest) label key missed k lt same
+
+-- ---- labels numbered one after another
+
+module _ (labels : List (List ℕ)) (j : ℕ) (lt : j < length labels) (distinct : (h i : ℕ) → ¬ IsDuplicate (take j labels) h i) where
+  pub equal_found : (old : List (List ℕ)) (label : List ℕ) (new : List (List ℕ)) (i : ℕ) → old ≡ take j labels → label ≡ get_or labels j [] → NumbersLabel old new label (Some i) → FindsEqual labels (Some (i, j))
+  equal_found old label new i are is n =
+      let whole : labels ≡ take j labels ++ get_or labels j [] ∷ drop (j + 1) labels = sym (take-append-drop j labels) ∙ ap (λ l. take j labels ++ l) (drop_more labels j [] lt) in
+      let count : length (take j labels) ≡ j = length-take-le j labels (omega (arith, lt)) in
+      let m : NumbersLabel (take j labels) new (get_or labels j []) (Some i) = subst (λ (l : List ℕ). NumbersLabel (take j labels) new l (Some i)) is (subst (λ (o : List (List ℕ)). NumbersLabel o new label (Some i)) are n) in
+      subst (λ k. FindsEqual labels (Some (i, k))) count (duplicate_first (take j labels) (get_or labels j []) distinct labels (drop (j + 1) labels) whole i m)
+
+  pub none_equal : (old : List (List ℕ)) (label : List ℕ) (new : List (List ℕ)) → old ≡ take j labels → label ≡ get_or labels j [] → NumbersLabel old new label None → (new ≡ take (j + 1) labels) × ((h i : ℕ) → ¬ IsDuplicate (take (j + 1) labels) h i)
+  none_equal old label new are is n =
+      let more = take_more labels j [] lt in
+      let m : NumbersLabel (take j labels) new (get_or labels j []) None = subst (λ (l : List ℕ). NumbersLabel (take j labels) new l None) is (subst (λ (o : List (List ℕ)). NumbersLabel o new label None) are n) in (
+        m.0 ∙ sym more,
+        subst (λ (l : List (List ℕ)). (h i : ℕ) → ¬ IsDuplicate l h i) (sym more) (distinct_push (take j labels) (get_or labels j []) distinct m.1),
+      )

@@ -5,7 +5,7 @@ use Rattle.conley_field.specs.Arithmetic.{Arithmetic}
 use Rattle.conley_chains.specs.Matrix.{Table, entry, column_count}
 use Rattle.conley_chains.proofs.EqualLemmas.{same_coefficients}
 use Rattle.conley_walk.proofs.AscendingLemmas.{same_numbers}
-use Rattle.conley_lefschetz.specs.Complex.{IsComplex, IsLevels, Layout, ComplexIsOne}
+use Rattle.conley_lefschetz.specs.Complex.{IsComplex, IsLevels, Layout, IsLayout, ComplexIsOne}
 
 -- two least numbers above all dimensions
 levels_once : (dims other : List ℕ) (m n : ℕ) → dims ≡ other → IsLevels dims m → IsLevels other n → m ≡ n
@@ -53,13 +53,16 @@ module _ (F : Arithmetic) (m n : Table) (dims other : List ℕ) (faces lists : L
         (λ s. (a.direct x y).1 (λ zero. (b.direct x y).0 s (sym (entries x y) ∙ zero))),
       )))
 
-pub complex_once : (F : Arithmetic) → ComplexIsOne F
-complex_once F listing a b laws_a laws_b is_a is_b =
-    let dims : a.dims ≡ b.dims = is_a.dims ∙ sym is_b.dims in
-    let entries : (x y : ℕ) → entry a.boundary y x ≡ entry b.boundary y x = λ x y. is_a.boundary x y ∙ sym (is_b.boundary x y) in
+-- complexes with the same labels, dimensions and entries
+pub same_layouts : (F : Arithmetic) (a b : Layout) → IsLayout F a → IsLayout F b → a.labels ≡ b.labels → a.dims ≡ b.dims → ((x y : ℕ) → entry a.boundary y x ≡ entry b.boundary y x) → a ≡ b
+same_layouts F a b laws_a laws_b labels dims entries =
     layout_once a b
-    (is_a.labels ∙ sym is_b.labels)
+    labels
     (boundary_once F a.boundary b.boundary a.dims b.dims a.faces b.faces laws_a.complex laws_b.complex dims entries)
     dims
     (faces_once F a.boundary b.boundary a.dims b.dims a.faces b.faces laws_a.complex laws_b.complex dims entries)
     (levels_once a.dims b.dims a.levels b.levels dims laws_a.levels laws_b.levels)
+
+pub complex_once : (F : Arithmetic) → ComplexIsOne F
+complex_once F listing a b laws_a laws_b is_a is_b =
+    same_layouts F a b laws_a laws_b (is_a.labels ∙ sym is_b.labels) (is_a.dims ∙ sym is_b.dims) (λ x y. is_a.boundary x y ∙ sym (is_b.boundary x y))

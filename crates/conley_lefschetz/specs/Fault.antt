@@ -1,12 +1,13 @@
 -- Why a listing makes no complex. Each fault says of one place that something is wrong there.
 --     IsDuplicate labels i j       labels i and j are equal
+--     FindsEqual labels answer     the first two equal labels, by the later one, then the earlier, or that there are none
 --     StoodBefore incidences k x y one of the first k triples is of x and y
 --     IsFault dims incidences k why triple k has this fault: 1 a cell out of range, 2 other dimensions than one apart, 3 zero, 4 its cells stood before
 --     Fails F listing fault        the sentence of the fault, at its place
 --     number fault, place fault    where it stands among the faults
 --     IsFirstFault F listing fault it fails, and none that fails stands before it
 --     IsClear F listing n          none with a number below n fails
-use Rattle.std.specs.Prelude.{◌≡◌, ◌≢◌, ◌⊎◌, ◌+◌, ◌<◌, ◌≤◌, ℕ, List, [], ◌∷◌, length, slice_index_or}
+use Rattle.std.specs.Prelude.{◌≡◌, ◌≢◌, ◌⊎◌, ◌+◌, ◌<◌, ◌≤◌, ℕ, Option, Some, None, List, [], ◌∷◌, length, slice_index_or}
 use Rattle.conley_field.specs.Arithmetic.{Arithmetic}
 use Rattle.conley_first.specs.First as first
 use Rattle.conley_lefschetz.specs.Listing.{Listing, dim_in, triple_at, square_at}
@@ -16,6 +17,11 @@ use Rattle.conley_lefschetz.specs.declared.error.ComplexError.TheVariants.{Dupli
 -- labels i and j are equal, and i stands before j
 abbrev pub IsDuplicate : List (List ℕ) → ℕ → ℕ → Type 0
 IsDuplicate labels i j = (i < j) × (j < length labels) × (slice_index_or labels i [] ≡ slice_index_or labels j [])
+
+-- of equal labels the later one counts first
+abbrev pub FindsEqual : List (List ℕ) → Option (ℕ × ℕ) → Type 0
+FindsEqual labels None = (i j : ℕ) → ¬ IsDuplicate labels i j
+FindsEqual labels (Some p) = IsDuplicate labels p.0 p.1 × ((h k : ℕ) → first.Precedes (k ∷ h ∷ []) (p.1 ∷ p.0 ∷ []) → ¬ IsDuplicate labels h k)
 
 -- what is wrong with the triple of x, y and a code by itself
 abbrev pub IsFaultAlone : List ℕ → ℕ → ℕ → ℕ → ℕ → Type 0

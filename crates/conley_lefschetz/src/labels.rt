@@ -1,8 +1,8 @@
-//! The refusal of two equal labels.
+//! Equal labels, and their refusal.
 
 ghost use Rattle.std.specs.Prelude.{◌≡◌, ◌<◌, ◌^◌, ℕ, IfOk, IsErrOf, length, string_bytes};
 ghost use Rattle.conley_lefschetz.specs.Listing.{bytes_of};
-ghost use Rattle.conley_lefschetz.specs.Fault.{IsDuplicate};
+ghost use Rattle.conley_lefschetz.specs.Fault.{IsDuplicate, FindsEqual};
 ghost use Rattle.conley_lefschetz.specs.Making.{NumbersLabel, FindsDuplicate};
 
 use crate::ComplexError;
@@ -38,4 +38,20 @@ pub(crate) fn number_labels(
         }
     }
     Ok(numbers)
+}
+
+/// The first two equal labels, by the later one, then the earlier.
+pub fn first_equal_labels(
+    alloc: Global,
+    labels: &[String],
+) -> Result<Option<(usize, usize)>, AllocError>
+    ensures { IfOk result (FindsEqual (bytes_of labels.now)) }
+{
+    let mut numbers = IndexSet::new(alloc);
+    for (j, label) in labels.iter().enumerate() {
+        if let Some(i) = number_label(&mut numbers, label.clone()?)? {
+            return Ok(Some((i, j)));
+        }
+    }
+    Ok(None)
 }

@@ -15,6 +15,7 @@ mod square;
 
 pub use complex::Complex;
 pub use error::ComplexError;
+pub use labels::first_equal_labels;
 pub use laws::{
     complex_of_listing_is_one, conley_numbers_are_one, first_fault_is_one, regular_sets_have_zeros,
 };

@@ -79,3 +79,14 @@ pub(crate) const DOUBLED: &str =
 pub(crate) const DOUBLED_PART: &str =
     r#"{"version":1,"scalars":5,"complex":{"kind":"lefschetz","cells":[["v",0],["e",1],["f",2]],
         "incidences":[[2,1,2]]},"field":{"kind":"whole","parts":[["e","f"]]}}"#;
+
+/// An interval as a cube, without parts.
+pub(crate) const INTERVAL: &str =
+    r#"{"version":1,"scalars":2,"complex":{"kind":"cubical","axes":1,"cubes":[[[0,1]]]},"field":{"kind":"whole","parts":[]}}"#;
+
+/// A torus with seven vertices, every two of them joined, whose 42 cells are one part.
+pub(crate) const TORUS: &str =
+    r#"{"version":1,"scalars":2,"complex":{"kind":"simplicial","vertices":["0","1","2","3","4","5","6"],"simplices":[[0,1,3],[1,2,4],[2,3,5],[3,4,6],[4,5,0],[5,6,1],[6,0,2],[0,2,3],[1,3,4],[2,4,5],[3,5,6],[4,6,0],[5,0,1],[6,1,2]]},
+        "field":{"kind":"whole","parts":[["0","1","2","3","4","5","6","0.1","0.2","0.3","0.4","0.5","0.6",
+        "1.2","1.3","1.4","1.5","1.6","2.3","2.4","2.5","2.6","3.4","3.5","3.6","4.5","4.6","5.6",
+        "0.1.3","0.1.5","0.2.3","0.2.6","0.4.5","0.4.6","1.2.4","1.2.6","1.3.4","1.5.6","2.3.5","2.4.5","3.4.6","3.5.6"]]}}"#;

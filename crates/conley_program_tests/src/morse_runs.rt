@@ -2,7 +2,7 @@
 
 use crate::files::{
     CRITICAL_PART, DOUBLED, DOUBLED_PART, EDGE, EDGE_WITHOUT_PARTS, HANDLE, NO_CELLS, PATH,
-    PLAIN_RING, REGULAR_PART, RING, TRIANGLE, TWISTED_RING, TWO_WAYS, VERTEX,
+    PLAIN_RING, REGULAR_PART, RING, TORUS, TRIANGLE, TWISTED_RING, TWO_WAYS, VERTEX,
 };
 use crate::large_files::points;
 use crate::refusals::REFUSED;
@@ -12,7 +12,7 @@ use conley_tool::Outcome;
 use std::test::Fail;
 
 /// Problems, with the Morse sets that are printed.
-const PRINTED: [Row; 15] = [
+const PRINTED: [Row; 16] = [
     (NO_CELLS, ""),
     (VERTEX, "set 0 index 1 cells v\n"),
     (REGULAR_PART, ""),
@@ -47,6 +47,11 @@ const PRINTED: [Row; 15] = [
         "set 0 index 1 1 0 cells a b c ab bc ca\nset 1 index 0 1 0 cells e\nset 2 index 0 0 1 cells t\norder 1 0\norder 2 1\n",
     ),
     (DOUBLED_PART, "set 0 index 1 0 0 cells v\n"),
+    (
+        TORUS,
+        "set 0 index 1 2 1 cells 0 1 2 3 4 5 6 0.1 0.2 0.3 0.4 0.5 0.6 1.2 1.3 1.4 1.5 1.6 2.3 2.4 2.5 2.6 3.4 3.5 3.6 4.5 4.6 5.6 \
+         0.1.3 0.1.5 0.2.3 0.2.6 0.4.5 0.4.6 1.2.4 1.2.6 1.3.4 1.5.6 2.3.5 2.4.5 3.4.6 3.5.6\n",
+    ),
 ];
 
 #[test]

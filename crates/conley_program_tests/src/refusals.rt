@@ -3,7 +3,7 @@
 use crate::running::Row;
 
 /// Files that are refused. Where two faults stand in a file, the earlier is told.
-pub(crate) const REFUSED: [Row; 32] = [
+pub(crate) const REFUSED: [Row; 33] = [
     // Cut.
     (
         r#"{"version":1,"scalars":2,"complex":{"kind":"lefsch"#,
@@ -22,10 +22,15 @@ pub(crate) const REFUSED: [Row; 32] = [
         r#"{"version":1,"scalars":2,"complex":{"kind":"lefschetz","cells":[["a",0],["b",0],["ab",1]],"incidences":[[2,0,1],[2,1,1]]}}"#,
         "refused E2 7\n",
     ),
-    // Simplices.
+    // A simplex with a vertex twice.
     (
-        r#"{"version":1,"scalars":2,"complex":{"kind":"simplicial","vertices":["a"],"simplices":[[0]]},"field":{"kind":"whole","parts":[]}}"#,
-        "refused E0\n",
+        r#"{"version":1,"scalars":2,"complex":{"kind":"simplicial","vertices":["a","b"],"simplices":[[0,0]]},"field":{"kind":"whole","parts":[]}}"#,
+        "refused E8 1 0\n",
+    ),
+    // A pair that is too wide.
+    (
+        r#"{"version":1,"scalars":2,"complex":{"kind":"cubical","axes":1,"cubes":[[[0,2]]]},"field":{"kind":"whole","parts":[]}}"#,
+        "refused E8 3 0\n",
     ),
     // A hull, and an order of no field.
     (

@@ -3,20 +3,21 @@ use Rattle.std.proofs.lemmas.Result.{err_from_is_err_and}
 use Rattle.conley_walk.specs.Lists.{items_of, ListedStep}
 use Rattle.conley_mvf.specs.Fault as parts
 use Rattle.conley_mvf.specs.Partition.{IsWhole}
+use Rattle.conley_mvf.specs.declared.error.PartError.TheVariants as part
 use Rattle.conley_lefschetz.specs.Complex.{Layout}
 use Rattle.conley_input.specs.Errors.{part_error}
-use Rattle.conley_input.specs.Listing.{Listing, numbers_of, parts_of, direct_faces}
+use Rattle.conley_input.specs.Listing.{Listing, parts_in}
 use Rattle.conley_input.specs.Meaning.{texts}
 use Rattle.conley_input.specs.Problem.{IsListedAs}
 use Rattle.conley_input.specs.Refusals.{IsFirstRefusal}
 use Rattle.conley_input.specs.declared.error.InputError.TheVariants as InputError
-use Rattle.conley_input.proofs.PartLemmas.{known, unknown_first, listed_fails, first_listed, none_unknown, length-direct_faces}
+use Rattle.conley_input.proofs.PartLemmas.{known, unknown_first, in_parts, first_in_parts, none_unknown}
 use Rattle.conley_input.proofs.RefusalLemmas.{parts_accepted, first_parts, part_not_memory}
 use Rattle.conley_input.proofs.parts.read_parts.Goals as goal
 
 -- the lists are those of the file
-numbered : (file : Listing) (layout : Layout) (labels : List (List (List ℕ))) (lists : List (List ℕ)) → IsListedAs file layout labels → lists ≡ map (numbers_of layout.labels (length layout.labels)) labels → lists ≡ parts_of file
-numbered file layout labels lists is e = e ∙ ap (λ ls. map (numbers_of ls (length ls)) labels) is.labels ∙ ap (λ ps. map (numbers_of file.labels (length file.labels)) ps) is.parts
+numbered : (file : Listing) (layout : Layout) (labels : List (List (List ℕ))) (lists : List (List ℕ)) → IsListedAs file layout labels → lists ≡ parts_in layout.labels labels → lists ≡ parts_in layout.labels file.parts
+numbered file layout labels lists is e = e ∙ ap (parts_in layout.labels) is.parts
 
 pub returns-in_err-lists-clause-err : goal.returns-in_err-lists-clause-err
 returns-in_err-lists-clause-err c = λ file is clear fault e.
@@ -35,7 +36,7 @@ returns-in-Ok-clause-ok c = λ file is clear.
     let clear_11 = known file layout labels is clear c.in_ok-lists.ensures.known in
     let none = rw (c.deref-2.ensures.value, c.faces.ensures.faces) at c.in-Ok.ensures.accepted in
     let whole = rw c.deref-2.ensures.value at c.in-Ok.ensures.parts in (
-      parts_accepted file clear_11 (λ error f. none error (listed_fails file layout.faces is.faces lists error (subst (λ ls. parts.Fails (direct_faces file) ls error) (sym are) f))),
+      parts_accepted file clear_11 (λ error f. none error (subst (λ ls. parts.Fails layout.faces ls error) (sym are) (in_parts file layout is.complex error f))),
       subst (λ ls. IsWhole ls c.in-Ok.partition) are whole,
     )
 
@@ -49,7 +50,8 @@ returns-clause-err c = λ file is clear fault e.
     let are = numbered file layout labels lists is c.in_ok-lists.ensures.ok in
     let clear_11 = known file layout labels is clear c.in_ok-lists.ensures.known in
     let first = rw (c.deref-2.ensures.value, c.faces.ensures.faces) at (c.in-Err.ensures.err error refl (part_not_memory error fault same)) in
-    let listed = subst (λ ls. parts.IsFirstFault (direct_faces file) ls error) are (first_listed file layout.faces is.faces lists error first) in
+    let listed = first_in_parts file layout is.complex error (subst (λ ls. parts.IsFirstFault layout.faces ls error) are first) in
     let within = subst (λ ls. (k x : ℕ) → ListedStep ls k x → x < length layout.dims) are c.in_ok-lists.ensures.within in
-    let cells : length layout.dims ≡ length (direct_faces file) = omega (arith, is.faces.count, length-direct_faces file layout.faces is.faces, c.faces.ensures.laws.complex.dims_count, c.faces.ensures.laws.complex.faces_count) in
-    first_parts file clear_11 (none_unknown (length (direct_faces file)) (parts_of file) (λ k x s. omega (arith, within k x s, cells))) error listed fault same
+    let cells : length layout.dims ≡ length layout.faces = omega (arith, c.faces.ensures.laws.complex.dims_count, c.faces.ensures.laws.complex.faces_count) in
+    let all_known = none_unknown (length layout.faces) (parts_in layout.labels file.parts) (λ k x s. omega (arith, within k x s, cells)) in
+    first_parts file clear_11 (λ l p f. all_known l p (in_parts file layout is.complex (part.Unknown l p) f)) error listed fault same

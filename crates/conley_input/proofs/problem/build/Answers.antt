@@ -18,11 +18,10 @@ returns-clause-ok c =
     let file = listed.meaning_of c.args.listing in
     let cells = c.in_ok-complex.ensures.complex in
     let found = c.in_ok-partition.ensures.ok file (record {
-      labels = cells.complex.labels;
-      faces = cells.faces;
+      complex = cells;
       parts = ap (λ (ps : List (Vec (String Global) Global)). map texts ps) c.deref.ensures.value ∙ c.in_ok-complex.ensures.parts;
     }) c.in_ok-complex.ensures.clear in
     record {
       accepted = found.0;
-      stands = record { complex = cells; parts = found.1; field = c.in_ok-partition.ensures.field; numbering = c.count-numbers.ensures.partition };
+      stands = record { order = c.in_ok-complex.ensures.order; complex = cells; parts = found.1; field = c.in_ok-partition.ensures.field; numbering = c.count-numbers.ensures.partition };
     }

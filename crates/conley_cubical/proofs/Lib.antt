@@ -1,0 +1,10 @@
+pub mod SquareLaw
+pub mod FaceLemmas
+pub mod UnderLemmas
+pub mod ValueLaw
+pub mod LabelLaw
+pub mod RuleLemmas
+pub mod FaultLemmas
+pub mod ShapeLemmas
+pub mod GoodLemmas
+pub mod OnceLemmas

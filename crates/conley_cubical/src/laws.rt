@@ -1,0 +1,15 @@
+//! Laws of the faults and of the complex.
+
+ghost use Rattle.conley_field.specs.Arithmetic.{Arithmetic};
+ghost use Rattle.conley_cubical.specs.Fault.{FirstFaultIsOne};
+ghost use Rattle.conley_cubical.specs.Cubical.{ComplexIsOne};
+
+/// At most one fault is the first: its number and its place tell the rest of it.
+pub fn first_fault_is_one()
+    ensures { FirstFaultIsOne }
+{}
+
+/// At most one complex is that of listed cubes.
+pub fn complex_of_cubes_is_one()
+    ensures { (F : Arithmetic) → ComplexIsOne F }
+{}

@@ -1,0 +1,12 @@
+pub mod CellLemmas
+pub mod GrowLemmas
+pub mod CloseLemmas
+pub mod OrderLemmas
+pub mod SignLemmas
+pub mod ValueLemmas
+pub mod JoinLaw
+pub mod SquareLemmas
+pub mod TripleLemmas
+pub mod ListingLemmas
+pub mod MakingLemmas
+pub mod OnceLemmas

@@ -1,0 +1,11 @@
+pub mod SquareLaw
+pub mod FaceLemmas
+pub mod UnderLemmas
+pub mod PartsLaw
+pub mod RuleLemmas
+pub mod SeedLemmas
+pub mod FaultLemmas
+pub mod VertexLemmas
+pub mod ShapeLemmas
+pub mod ComplexLemmas
+pub mod OnceLemmas
