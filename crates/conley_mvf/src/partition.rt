@@ -6,9 +6,9 @@ ghost use Rattle.conley_walk.specs.Lists.{items_of, entries_of};
 ghost use Rattle.conley_mvf.specs.Partition.{IsInPart, IsPartNumber, IsPartition, IsMultivectorField, HaveNoGap, HaveSameParts, IsWhole};
 ghost use Rattle.conley_mvf.specs.Fault.{Fails, IsFirstFault};
 
-use crate::{NoMemory, PartError};
 use crate::faults::{first_empty, first_gap, first_repeat, first_unknown};
 use crate::numbering::{firsts_by_label, firsts_of, numbers_of};
+use crate::{NoMemory, PartError};
 use conley_faces::Faces;
 use conley_walk::{all_ordered, gathered};
 use std::alloc::Global;

@@ -90,3 +90,8 @@ pub(crate) const TORUS: &str =
         "field":{"kind":"whole","parts":[["0","1","2","3","4","5","6","0.1","0.2","0.3","0.4","0.5","0.6",
         "1.2","1.3","1.4","1.5","1.6","2.3","2.4","2.5","2.6","3.4","3.5","3.6","4.5","4.6","5.6",
         "0.1.3","0.1.5","0.2.3","0.2.6","0.4.5","0.4.6","1.2.4","1.2.6","1.3.4","1.5.6","2.3.5","2.4.5","3.4.6","3.5.6"]]}}"#;
+
+/// Two edges and a disc without the vertices; the disc has one of the edges under it, and is in a part with the other.
+pub(crate) const HALF_DISC: &str =
+    r#"{"version":1,"scalars":2,"complex":{"kind":"lefschetz","cells":[["f",1],["g",1],["h",2]],
+        "incidences":[[2,0,1]]},"field":{"kind":"whole","parts":[["g","h"]]}}"#;

@@ -3,6 +3,10 @@
 #![tactic(auto)]
 
 #[cfg(test)]
+mod analyze_runs;
+#[cfg(test)]
+mod check_runs;
+#[cfg(test)]
 mod files;
 #[cfg(test)]
 mod json_tests;

@@ -109,7 +109,7 @@ pub(crate) fn expect_printed<R: Abort>(
     rows: &[Row],
 ) -> Result<(), AllocError> {
     for (file, text) in rows {
-        let said = said_of(alloc, &[command, "f"], file.as_bytes(), 200, 3)?;
+        let said = said_of(alloc, &[command, "f"], file.as_bytes(), 400, 3)?;
         assert!(rt; said.is(0, text, ""), "{file}");
     }
     Ok(())

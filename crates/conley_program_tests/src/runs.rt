@@ -30,13 +30,14 @@ fn a_file_that_is_no_problem_has_no_classes(rt: HostRuntime) -> Result<(), Fail>
 }
 
 /// Words without a form.
-const WORDS: [&[&str]; 7] = [
+const WORDS: [&[&str]; 8] = [
     &[],
     &["analyze"],
     &["classes"],
     &["classes", "f", "f"],
     &["morse"],
     &["morse", "f", "f"],
+    &["check", "f"],
     &["--help", "f"],
 ];
 
@@ -46,7 +47,11 @@ fn words_without_a_form_are_usage(rt: HostRuntime) -> Result<(), Fail> {
         let said = said_of(rt.alloc(), texts, EDGE.as_bytes(), 100, 10)?;
         assert!(rt;
             said.outcome == Outcome::Usage
-                && said.is(2, "", "usage: conley classes FILE | morse FILE\n")
+                && said.is(
+                    2,
+                    "",
+                    "usage: conley classes FILE | morse FILE | analyze FILE | check FILE CERT\n"
+                )
         );
     }
     Ok(())
