@@ -1,5 +1,10 @@
-//! Tests that cross crates: from lists of triangles by complexes to homology.
+//! What crosses crates: a caller of `analyze` and `check`, and tests from lists of triangles by complexes to homology.
 #![tactic(auto)]
 
+mod analyzed;
+#[cfg(test)]
+mod analyzed_tests;
 #[cfg(test)]
 mod surfaces;
+
+pub use analyzed::checked_analysis;
