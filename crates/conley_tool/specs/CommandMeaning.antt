@@ -1,4 +1,5 @@
 -- What a command in hand means.
+--     meaning_of command    the verb, and the arguments as their bytes
 use Rattle.std.specs.Prelude.{map, string_bytes}
 use Rattle.conley_tool.specs.Words as spec
 use Rattle.conley_tool.specs.declared.words.Command.{Command}
