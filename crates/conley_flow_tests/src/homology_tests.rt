@@ -2,7 +2,7 @@ ghost use Rattle.conley_faces.specs.Face.{IsCellList};
 
 use conley_field::{PrimeField, Scalar};
 use conley_fixtures::triangle;
-use conley_homology::{Homology, numbers, relative};
+use conley_homology::{Homology, is_regular, numbers, relative};
 use conley_lefschetz::Complex;
 use std::alloc::Global;
 use std::test::Fail;
@@ -17,14 +17,18 @@ fn homology_of(alloc: Global, complex: &Complex<PrimeField>, set: &[u32]) -> Res
     Ok(relative(alloc, complex, set)?)
 }
 
-/// The Conley numbers of cells that are found to be locally closed.
+/// The Conley numbers of cells that are found to be locally closed, and regular exactly where all are 0.
 fn numbers_of(alloc: Global, complex: &Complex<PrimeField>, set: &[u32]) -> Result<Vec<u32>, Fail>
     requires { IsCellList complex.now.1.faces set.now }
 {
     if let Some(_gap) = complex.faces().find_gap(set) {
         return Err("a gap".into());
     }
-    Ok(numbers(alloc, complex, set)?)
+    let numbers = numbers(alloc, complex, set)?;
+    if is_regular(alloc, complex, set)? != numbers.iter().all(|r| *r == 0) {
+        return Err("regular and critical".into());
+    }
+    Ok(numbers)
 }
 
 /// Whether the set has these Conley numbers, with or without cycles, and so many cycles.
@@ -59,6 +63,12 @@ fn mouth_is_a_ring(alloc: Global) -> Result<bool, Fail> {
     has(alloc, &complex, &set, &[1, 1, 0], 2)
 }
 
+/// Whether an edge and one of its ends are regular.
+fn edge_is_regular(alloc: Global) -> Result<bool, Fail> {
+    let complex = triangle(alloc)?;
+    has(alloc, &complex, &[0, 3], &[0, 0, 0], 0)
+}
+
 /// Whether the triangle by itself has its numbers.
 fn cell_has_numbers(alloc: Global) -> Result<bool, Fail> {
     let complex = triangle(alloc)?;
@@ -86,6 +96,12 @@ fn a_triangle_with_its_faces_is_one_piece(rt: HostRuntime) -> Result<(), Fail> {
 #[test]
 fn the_faces_of_a_triangle_are_a_ring(rt: HostRuntime) -> Result<(), Fail> {
     assert!(rt; mouth_is_a_ring(rt.alloc())?);
+    Ok(())
+}
+
+#[test]
+fn an_edge_and_one_end_are_regular(rt: HostRuntime) -> Result<(), Fail> {
+    assert!(rt; edge_is_regular(rt.alloc())?);
     Ok(())
 }
 

@@ -1,6 +1,6 @@
 //! The Conley numbers of a set of cells, without cycles.
 
-ghost use Rattle.std.specs.Prelude.{◌≡◌, ◌↔◌, ◌<◌, ◌==◌, if◌then◌else◌, All, IfOk, ℕ, length, slice_index};
+ghost use Rattle.std.specs.Prelude.{◌≡◌, ◌↔◌, ◌<◌, ◌==◌, if◌then◌else◌, All, IfOk, IsTrue, ℕ, length, slice_index};
 ghost use Rattle.conley_algebra.specs.Entries.{Vector};
 ghost use Rattle.conley_faces.specs.Face.{IsCellList, IsLocallyClosed};
 ghost use Rattle.conley_lefschetz.specs.Conley.{IsRegular, IsConleyBasis, AreConleyNumbers};
@@ -94,4 +94,25 @@ pub fn numbers<F: Field>(
     regular_sets_have_zeros(complex);
     let numbers = by_size(alloc, complex, set)?;
     Ok(numbers)
+}
+
+/// Whether all numbers are 0.
+fn are_zero(numbers: &[u32]) -> bool
+    ensures { IsTrue result ↔ All (λ r. r ≡ 0) numbers.now }
+{
+    numbers.iter().all(|r| *r == 0)
+}
+
+/// Whether a locally closed set is regular: each of its relative cycles is a relative boundary. A set of one cell isn't, and nothing is reduced for it.
+pub fn is_regular<F: Field>(
+    alloc: Global,
+    complex: &Complex<F>,
+    set: &[u32],
+) -> Result<bool, NoMemory>
+    requires cells { IsCellList complex.now.1.faces set.now }
+    requires closed { IsLocallyClosed complex.now.1.faces set.now }
+    ensures { IfOk result (λ answer. IsTrue answer ↔ IsRegular (F.arithmetic complex.now.0) complex.now.1 set.now) }
+{
+    let numbers = numbers(alloc, complex, set)?;
+    Ok(are_zero(&numbers))
 }
