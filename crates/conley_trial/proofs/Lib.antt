@@ -1,0 +1,11 @@
+pub mod CofaceLemmas
+pub mod RangeLemmas
+pub mod CandidateLemmas
+pub mod StepLemmas
+pub mod KeptLemmas
+pub mod FairLemmas
+pub mod SquareLemmas
+pub mod TrialLemmas
+pub mod CandidatesLaw
+pub mod ChainLengthLemmas
+pub mod OnceLemmas
