@@ -1,7 +1,7 @@
 use crate::asking::has_labels;
 use conley_input::{FileFault, InputError, Problem};
 use conley_morse::morse;
-use std::alloc::Global;
+use std::alloc::{AllocError, Global};
 use std::test::Fail;
 
 /// What a file is refused with.
@@ -83,6 +83,50 @@ const INTERVAL: &str =
 fn cells_without_a_part_are_parts(rt: HostRuntime) -> Result<(), Fail> {
     let problem = Problem::from_json(rt.alloc(), INTERVAL.as_bytes())?;
     assert!(rt; has_labels(&problem.complex, &["0", "1", "0+"]) && problem.partition.count() == 3);
+    Ok(())
+}
+
+/// A triangle, the hull of a vertex with it, and two named sets.
+const TRIANGLE: &str =
+    r#"{"version":1,"scalars":2,"complex":{"kind":"simplicial","vertices":["a","b","c"],"simplices":[[0,1,2]]},
+"field":{"kind":"hull","parts":[["a","a.b.c","a"]]},"sets":[["s",["a.c","b","b"]],["s",[]]]}"#;
+
+#[test]
+fn a_hull_gains_what_lies_between(rt: HostRuntime) -> Result<(), Fail> {
+    let problem = Problem::from_json(rt.alloc(), TRIANGLE.as_bytes())?;
+    assert!(rt; problem.partition.count() == 4);
+    assert!(rt; problem.partition.cells_of(0) == [0, 3, 4, 6]);
+    Ok(())
+}
+
+#[test]
+fn a_cell_that_is_repeated_in_a_named_set_counts_once(rt: HostRuntime) -> Result<(), Fail> {
+    let problem = Problem::from_json(rt.alloc(), TRIANGLE.as_bytes())?;
+    assert!(rt; problem.sets.len() == 2);
+    assert!(rt; problem.sets[0].name.as_str() == "s" && problem.sets[0].cells.as_slice() == [1, 4]);
+    assert!(rt; problem.sets[1].cells.is_empty());
+    Ok(())
+}
+
+/// A file of no cells with so many named sets.
+fn with_sets(alloc: Global, count: usize) -> Result<String, AllocError> {
+    let mut file = String::from_str(
+        alloc,
+        r#"{"version":1,"scalars":2,"complex":{"kind":"cubical","axes":1,"cubes":[]},"field":{"kind":"hull","parts":[]},"sets":[["s",[]]"#,
+    )?;
+    for _ in 1..count {
+        file.push_str(r#",["s",[]]"#)?;
+    }
+    file.push_str("]}")?;
+    Ok(file)
+}
+
+#[test]
+fn a_file_has_at_most_256_named_sets(rt: HostRuntime) -> Result<(), Fail> {
+    let most = with_sets(rt.alloc(), 256)?;
+    let more = with_sets(rt.alloc(), 257)?;
+    assert!(rt; Problem::from_json(rt.alloc(), most.as_bytes())?.sets.len() == 256);
+    assert!(rt; fault_of(rt.alloc(), more.as_str()) == Some(FileFault::TooMany(3, 257)));
     Ok(())
 }
 

@@ -13,8 +13,8 @@ use Rattle.conley_lefschetz.specs.Complex.{Layout, IsLayout}
 use Rattle.conley_lefschetz.proofs.OnceLemmas as of_cells
 use Rattle.conley_simplicial.proofs.OnceLemmas as of_simplices
 use Rattle.conley_cubical.proofs.OnceLemmas as of_cubes
-use Rattle.conley_input.specs.File.{Complex, lefschetz, simplicial, cubical}
-use Rattle.conley_input.specs.Listing.{Listing, scalars_of, with_scalar, with_scalars, cell_listing, IsComplexFor, IsComplexIn}
+use Rattle.conley_input.specs.File.{File, Complex, lefschetz, simplicial, cubical}
+use Rattle.conley_input.specs.Listing.{scalars_of, with_scalar, with_scalars, cell_listing, IsComplexFor, IsComplexIn}
 use Rattle.conley_input.specs.Meaning.{own}
 
 -- a field of the table has the residues modulo its order
@@ -40,7 +40,7 @@ once_for F (lefschetz cells incidences) a b laws laws' is is' = of_cells.complex
 once_for F (simplicial vertices simplices) a b laws laws' is is' = of_simplices.complex_once F vertices simplices a b laws laws' is is'
 once_for F (cubical axes cubes) a b laws laws' is is' = of_cubes.complex_once F cubes a b laws laws' is is'
 
-pub complex_once : (file : Listing) (a b : Layout) → IsComplexIn file a → IsComplexIn file b → a ≡ b
+pub complex_once : (file : File) (a b : Layout) → IsComplexIn file a → IsComplexIn file b → a ≡ b
 complex_once file a b is is' = once_for (scalars_of file) file.complex a b is.laws is'.laws is.complex is'.complex
 
 -- ---- lists of numbers are their own meaning

@@ -4,4 +4,6 @@ pub mod LimitLemmas
 pub mod TextLemmas
 pub mod CellLemmas
 pub mod PartLemmas
+pub mod SetLemmas
+pub mod BuildLemmas
 pub mod OnceLemmas

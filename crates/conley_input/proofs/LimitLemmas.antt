@@ -5,26 +5,29 @@ use Rattle.std.specs.declared.alloc.Global.{Global}
 use Rattle.std.proofs.lemmas.Bool.{cases_lt}
 use Rattle.std.proofs.lemmas.List.{get_or_default, get_or-map, length-map}
 use Rattle.conley_walk.specs.Lists.{items_of}
-use Rattle.conley_input.specs.File.{Complex}
-use Rattle.conley_input.specs.Limits.{most_cells, most_listed, most_dimension}
-use Rattle.conley_input.specs.Listing.{Listing, labels_of, dims_of, count_of}
+use Rattle.conley_input.specs.File.{File}
+use Rattle.conley_input.specs.Limits.{most_cells, most_listed, most_sets, most_dimension}
+use Rattle.conley_input.specs.Listing.{labels_of, dims_of, count_of}
 use Rattle.conley_input.specs.Meaning.{cell_texts}
 use Rattle.conley_input.specs.Refusals.{PassesLimit, IsClear}
 use Rattle.conley_input.specs.declared.error.FileFault.TheVariants.{TooMany}
 
-pub no_limit : (file : Listing) → IsClear file 5 → (limit least : ℕ) → ¬ PassesLimit file.complex limit least
+pub no_limit : (file : File) → IsClear file 5 → (limit least : ℕ) → ¬ PassesLimit file limit least
 no_limit file clear limit least passes = clear.none (TooMany limit least) (lit< tt) passes
 
-module _ (listed : Complex) (none : (limit least : ℕ) → ¬ PassesLimit listed limit least) where
-  pub few_labels : length (labels_of listed) ≤ most_cells
-  few_labels = elim (cases_lt most_cells (length (labels_of listed))) [ inl more ↦ absurd (none 1 (most_cells + 1) (inl (refl, refl, more))) | inr few ↦ few ]
+module _ (file : File) (none : (limit least : ℕ) → ¬ PassesLimit file limit least) where
+  pub few_labels : length (labels_of file.complex) ≤ most_cells
+  few_labels = elim (cases_lt most_cells (length (labels_of file.complex))) [ inl more ↦ absurd (none 1 (most_cells + 1) (inl (refl, refl, more))) | inr few ↦ few ]
 
-  pub few_listed : count_of listed ≤ most_listed
-  few_listed = elim (cases_lt most_listed (count_of listed)) [ inl more ↦ absurd (none 2 (most_listed + 1) (inr (inl (refl, refl, more)))) | inr few ↦ few ]
+  pub few_listed : count_of file.complex ≤ most_listed
+  few_listed = elim (cases_lt most_listed (count_of file.complex)) [ inl more ↦ absurd (none 2 (most_listed + 1) (inr (inl (refl, refl, more)))) | inr few ↦ few ]
 
-  pub dims_within : All (λ dim. dim ≤ most_dimension) (dims_of listed)
-  dims_within k d lt = elim (cases_lt most_dimension (get_or (dims_of listed) k d)) [
-    | inl above ↦ absurd (none 4 (most_dimension + 1) (inr (inr (inl (refl, refl, (k, get_or (dims_of listed) k d, lt, get_or_default (dims_of listed) k (get_or (dims_of listed) k d) d lt, above))))))
+  pub few_names : length file.sets.names ≤ most_sets
+  few_names = elim (cases_lt most_sets (length file.sets.names)) [ inl more ↦ absurd (none 3 (most_sets + 1) (inr (inr (inl (refl, refl, more))))) | inr few ↦ few ]
+
+  pub dims_within : All (λ dim. dim ≤ most_dimension) (dims_of file.complex)
+  dims_within k d lt = elim (cases_lt most_dimension (get_or (dims_of file.complex) k d)) [
+    | inl above ↦ absurd (none 4 (most_dimension + 1) (inr (inr (inr (inl (refl, refl, (k, get_or (dims_of file.complex) k d, lt, get_or_default (dims_of file.complex) k (get_or (dims_of file.complex) k d) d lt, above)))))))
     | inr within ↦ omega (arith, within)
   ]
 

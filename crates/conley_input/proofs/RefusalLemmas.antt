@@ -1,6 +1,7 @@
 -- From the refusals of the complex and of parts to all refusals.
-use Rattle.std.proofs.Common.{◌≡◌, ◌<◌, ◌≤◌, ◌+◌, ℕ, List, [], ◌∷◌, inl, inr, refl, subst, arith}
-use Rattle.std.proofs.lemmas.Bool.{cases_lt}
+use Rattle.std.proofs.Common.{◌≡◌, ◌⊎◌, ◌<◌, ◌≤◌, ◌+◌, ℕ, true, false, List, [], ◌∷◌, length, Option, Some, None, inl, inr, refl, sym, ◌∙◌, subst, arith}
+use Rattle.std.specs.Prelude.{◌≢◌, IfSome, IfNone}
+use Rattle.std.proofs.lemmas.Bool.{cases_lt, cases_order, false≢true}
 use Rattle.conley_field.specs.Arithmetic.{Arithmetic}
 use Rattle.conley_first.specs.First.{Precedes, StandsBefore, IsFirst}
 use Rattle.conley_first.proofs.FirstLemmas.{clear-next, first-next}
@@ -8,10 +9,10 @@ use Rattle.conley_mvf.specs.Fault as parts
 use Rattle.conley_mvf.specs.declared.error.PartError.{PartError}
 use Rattle.conley_mvf.specs.declared.error.PartError.TheVariants as part
 use Rattle.conley_input.specs.Errors.{part_error}
-use Rattle.conley_input.specs.File.{Complex, lefschetz, simplicial, cubical}
-use Rattle.conley_input.specs.Listing.{Listing, scalars_of}
+use Rattle.conley_input.specs.File.{File, Complex, lefschetz, simplicial, cubical}
+use Rattle.conley_input.specs.Listing.{scalars_of, labels_of}
 use Rattle.conley_input.specs.RefusalOrder.{number, place}
-use Rattle.conley_input.specs.Refusals.{Fails, FailsIn, FailsAsParts, IsFirstIn, IsFirstRefusal, IsClear}
+use Rattle.conley_input.specs.Refusals.{Fails, FailsIn, FailsAsParts, IsBadName, IsFirstIn, IsFirstRefusal, IsClear}
 use Rattle.conley_input.specs.declared.error.FileFault.{FileFault}
 use Rattle.conley_input.specs.declared.error.FileFault.TheVariants.{NotJson, BadLabel, DuplicateLabel, BadIncidence, BadSimplex, BadAxes, BadCube, TooManyCells, NotBoundary, UnknownCell, RepeatedCell, EmptyPart, NotLocallyClosed}
 use Rattle.conley_input.specs.declared.error.InputError.TheVariants.{Bad}
@@ -71,9 +72,15 @@ numbered F (cubical axes cubes) (BadCube k) f = (omega arith, omega arith)
 numbered F (cubical axes cubes) (TooManyCells least) f = (omega arith, omega arith)
 numbered F (cubical axes cubes) fault f = absurd f
 
-module _ (file : Listing) where
+-- a label of the complex has a place among those of the complex
+label_within : (F : Arithmetic) (listed : Complex) (k : ℕ) → FailsIn F listed (BadLabel k) → k < length (labels_of listed)
+label_within F (lefschetz cells incidences) k f = f.0
+label_within F (simplicial vertices simplices) k f = f.0
+label_within F (cubical axes cubes) k f = absurd f
+
+module _ (file : File) where
   fails_of : (fault : FileFault) → FailsIn (scalars_of file) file.complex fault → Fails file fault
-  fails_of (BadLabel k) f = f
+  fails_of (BadLabel k) f = inl f
   fails_of (DuplicateLabel i j) f = f
   fails_of (BadIncidence k why) f = f
   fails_of (BadSimplex k) f = f
@@ -83,8 +90,8 @@ module _ (file : Listing) where
   fails_of (NotBoundary x z) f = f
   fails_of fault f = absurd (omega (arith, (numbered (scalars_of file) file.complex fault f).0, (numbered (scalars_of file) file.complex fault f).1))
 
-  fails_in : (fault : FileFault) → 4 < number fault → number fault < 10 → Fails file fault → FailsIn (scalars_of file) file.complex fault
-  fails_in (BadLabel k) low high f = f
+  -- behind labels and names
+  fails_in : (fault : FileFault) → 5 < number fault → number fault < 10 → Fails file fault → FailsIn (scalars_of file) file.complex fault
   fails_in (DuplicateLabel i j) low high f = f
   fails_in (BadIncidence k why) low high f = f
   fails_in (BadSimplex k) low high f = f
@@ -94,26 +101,68 @@ module _ (file : Listing) where
   fails_in (NotBoundary x z) low high f = f
   fails_in fault low high f = absurd (omega (arith, low, high))
 
-  module _ (clear : IsClear file 5) where
-    -- a complex without a refusal refuses nothing before the parts
-    pub clear_complex : ((fault : FileFault) → ¬ FailsIn (scalars_of file) file.complex fault) → IsClear file 10
-    clear_complex none = record {
-      none = λ fault lt f. elim (cases_lt (number fault) 5) [ inl below ↦ clear.none fault below f | inr above ↦ none fault (fails_in fault (omega (arith, above)) lt f) ];
-    }
+  of_label : (Q : List ℕ → Type 0) → ((k : ℕ) → Q (k ∷ []) → ¬ Fails file (BadLabel k)) → (other : FileFault) → number other ≡ 5 → Q (place other) → ¬ Fails file other
+  of_label Q none (BadLabel k) e q = none k q
+  of_label Q none other e q = absurd (omega arith)
 
-    -- the first refusal of the complex is the first of all
-    pub first_complex : (fault : FileFault) → IsFirstIn (scalars_of file) file.complex fault → IsFirstRefusal file fault
-    first_complex fault f = record {
-      holds = fails_of fault f.holds;
-      first = λ other before h.
-          let high = (numbered (scalars_of file) file.complex fault f.holds).1 in
-          let le = no_greater (number other) (number fault) (place other) (place fault) before in
-          elim (cases_lt (number other) 5) [ inl below ↦ clear.none other below h | inr above ↦ f.first other before (fails_in other (omega (arith, above)) (omega (arith, high, le)) h) ];
-    }
+  module _ (clear : IsClear file 5) where
+    clear_labels : ((k : ℕ) → ¬ Fails file (BadLabel k)) → IsClear file 6
+    clear_labels none = clear-next number place (Fails file) 5 clear (λ other e. of_label (λ _. Unit {0}) (λ k _. none k) other e tt)
+
+    first_bad : (k : ℕ) → Fails file (BadLabel k) → ((j : ℕ) → j < k → ¬ Fails file (BadLabel j)) → IsFirstRefusal file (BadLabel k)
+    first_bad k fails before = first-next number place (Fails file) 5 clear (BadLabel k) refl fails
+        (of_label (λ a. Precedes a (k ∷ [])) (λ j p. elim p [ inl less ↦ before j less | inr both ↦ absurd both.1 ]))
+
+    -- a complex without a refusal, and names that keep the rule, refuse nothing before the parts
+    pub clear_complex : ((fault : FileFault) → ¬ FailsIn (scalars_of file) file.complex fault) → ((k : ℕ) → ¬ IsBadName file k) → IsClear file 10
+    clear_complex none names =
+        let labels = clear_labels (λ k f. elim f [ inl g ↦ none (BadLabel k) g | inr n ↦ names k n ]) in
+        record { none = λ fault lt f. elim (cases_lt (number fault) 6) [ inl below ↦ labels.none fault below f | inr above ↦ none fault (fails_in fault (omega (arith, above)) lt f) ] }
+
+    -- the first bad name, where no label of the complex is bad
+    pub first_name : (k : ℕ) → IsBadName file k → ((j : ℕ) → j < k → ¬ IsBadName file j) → ((j : ℕ) → ¬ FailsIn (scalars_of file) file.complex (BadLabel j)) → IsFirstRefusal file (BadLabel k)
+    first_name k bad before none = first_bad k (inr bad) (λ j less f. elim f [ inl g ↦ none j g | inr n ↦ before j less n ])
+
+    -- a label of the complex stands before the names
+    first_label : (fault : FileFault) → number fault ≡ 5 → IsFirstIn (scalars_of file) file.complex fault → IsFirstRefusal file fault
+    first_label (BadLabel k) e f = first_bad k (inl f.holds) before
+      where
+        before : (j : ℕ) → j < k → ¬ Fails file (BadLabel j)
+        before j less (inl g) = f.first (BadLabel j) (inr (refl, inl less)) g
+        before j less (inr n) = omega (arith, less, n.1, label_within (scalars_of file) file.complex k f.holds)
+    first_label fault e f = absurd (omega (arith, e))
+
+    -- another refusal of the complex stands behind the names
+    first_later : (fault : FileFault) → 5 < number fault → ((k : ℕ) → ¬ IsBadName file k) → IsFirstIn (scalars_of file) file.complex fault → IsFirstRefusal file fault
+    first_later fault low names f =
+        let none : (j : ℕ) → ¬ FailsIn (scalars_of file) file.complex (BadLabel j) = λ j g. f.first (BadLabel j) (inl low) g in
+        let labels = clear_labels (λ k h. elim h [ inl g ↦ none k g | inr n ↦ names k n ]) in
+        record {
+          holds = fails_of fault f.holds;
+          first = λ other before h.
+              let high = (numbered (scalars_of file) file.complex fault f.holds).1 in
+              let le = no_greater (number other) (number fault) (place other) (place fault) before in
+              elim (cases_lt (number other) 6) [ inl below ↦ labels.none other below h | inr above ↦ f.first other before (fails_in other (omega (arith, above)) (omega (arith, high, le)) h) ];
+        }
+
+    -- of a refusal of the complex and a bad name the one that stands first
+    pub first_complex : (fault told : FileFault) (name : Option ℕ) → IsFirstIn (scalars_of file) file.complex fault
+        → IfSome name (λ k. IsBadName file k) → IfSome name (λ k. (j : ℕ) → j < k → ¬ IsBadName file j) → IfNone name ((j : ℕ) → ¬ IsBadName file j)
+        → (number fault ≡ 5 → told ≡ fault) → (number fault ≢ 5 → IfSome name (λ k. told ≡ BadLabel k)) → IfNone name (told ≡ fault) → IsFirstRefusal file told
+    first_complex fault told name f bad before none label named other =
+        elim (cases_order (number fault) 5) [
+          | inl e ↦ subst (IsFirstRefusal file) (sym (label e)) (first_label fault e f)
+          | inr apart ↦ elim apart [ inl less ↦ absurd (omega (arith, less, (numbered (scalars_of file) file.complex fault f.holds).0)) | inr more ↦ later more name bad before none (named (λ e. omega (arith, e, more))) other ]
+        ]
+      where
+        later : 5 < number fault → (name : Option ℕ) → IfSome name (λ k. IsBadName file k) → IfSome name (λ k. (j : ℕ) → j < k → ¬ IsBadName file j) → IfNone name ((j : ℕ) → ¬ IsBadName file j)
+            → IfSome name (λ k. told ≡ BadLabel k) → IfNone name (told ≡ fault) → IsFirstRefusal file told
+        later more (Some k) bad before none named other = subst (IsFirstRefusal file) (sym named) (first_name k bad before (λ j g. f.first (BadLabel j) (inl more) g))
+        later more None bad before none named other = subst (IsFirstRefusal file) (sym other) (first_later fault more none f)
 
 -- ---- the parts
 
-module _ (file : Listing) where
+module _ (file : File) where
   of_unknown : (Q : List ℕ → Type 0) → ((l p : ℕ) → Q (l ∷ p ∷ []) → ¬ Fails file (UnknownCell l p)) → (other : FileFault) → number other ≡ 10 → Q (place other) → ¬ Fails file other
   of_unknown Q none (UnknownCell l p) e q = none l p q
   of_unknown Q none other e q = absurd (omega arith)
@@ -132,21 +181,22 @@ part_not_memory (part.EmptyPart k) fault e same = cc
 part_not_memory (part.Gap k x y z) fault e same = cc
 part_not_memory part.NoMemory fault e same = cc
 
-module _ (file : Listing) (clear : IsClear file 11) where
+-- of a field that is given whole
+module _ (file : File) (clear : IsClear file 11) (whole : file.field.is_hull ≡ false) where
   -- parts without a fault refuse nothing
   pub parts_accepted : ((error : PartError) → ¬ FailsAsParts file error) → (fault : FileFault) → ¬ Fails file fault
-  parts_accepted none (RepeatedCell l p) = none (part.Repeated l p)
+  parts_accepted none (RepeatedCell l p) = λ f. none (part.Repeated l p) f.1
   parts_accepted none (EmptyPart k) = none (part.EmptyPart k)
-  parts_accepted none (NotLocallyClosed k x y z) = none (part.Gap k x y z)
+  parts_accepted none (NotLocallyClosed k x y z) = λ f. none (part.Gap k x y z) f.1
   parts_accepted none NotJson = clear.none NotJson (omega arith)
   parts_accepted none fault = clear.none fault (omega arith)
 
   -- what stands before a fault of parts, with the number that it has here and there
   module _ (m m' : ℕ) (b : List ℕ) (shift : m ≡ m' + 9) (low : 11 ≤ m) (none : (error : PartError) → Precedes (parts.number error ∷ parts.place error) (m' ∷ b) → ¬ FailsAsParts file error) where
     no_part_before : (other : FileFault) → Precedes (number other ∷ place other) (m ∷ b) → ¬ Fails file other
-    no_part_before (RepeatedCell l q) p = none (part.Repeated l q) (moved 11 m 2 m' (l ∷ q ∷ []) b (λ h. omega (arith, shift, h)) (λ h. omega (arith, shift, h)) p)
+    no_part_before (RepeatedCell l q) p = λ f. none (part.Repeated l q) (moved 11 m 2 m' (l ∷ q ∷ []) b (λ h. omega (arith, shift, h)) (λ h. omega (arith, shift, h)) p) f.1
     no_part_before (EmptyPart k) p = none (part.EmptyPart k) (moved 12 m 3 m' (k ∷ []) b (λ h. omega (arith, shift, h)) (λ h. omega (arith, shift, h)) p)
-    no_part_before (NotLocallyClosed k x y z) p = none (part.Gap k x y z) (moved 13 m 4 m' (k ∷ x ∷ y ∷ z ∷ []) b (λ h. omega (arith, shift, h)) (λ h. omega (arith, shift, h)) p)
+    no_part_before (NotLocallyClosed k x y z) p = λ f. none (part.Gap k x y z) (moved 13 m 4 m' (k ∷ x ∷ y ∷ z ∷ []) b (λ h. omega (arith, shift, h)) (λ h. omega (arith, shift, h)) p) f.1
     no_part_before NotJson p = clear.none NotJson (omega arith)
     no_part_before other p = clear.none other (omega arith)
 
@@ -155,14 +205,40 @@ module _ (file : Listing) (clear : IsClear file 11) where
   first_parts known (part.Unknown l p) first fault e = absurd (known l p first.holds)
   first_parts known (part.Repeated l p) first fault e =
       let same : RepeatedCell l p ≡ fault = cc in
-      subst (IsFirstRefusal file) same (record { holds = first.holds; first = no_part_before 11 2 (l ∷ p ∷ []) refl (omega arith) first.first })
+      subst (IsFirstRefusal file) same (record { holds = (whole, first.holds); first = no_part_before 11 2 (l ∷ p ∷ []) refl (omega arith) first.first })
   first_parts known (part.EmptyPart k) first fault e =
       let same : EmptyPart k ≡ fault = cc in
       subst (IsFirstRefusal file) same (record { holds = first.holds; first = no_part_before 12 3 (k ∷ []) refl (omega arith) first.first })
   first_parts known (part.Gap k x y z) first fault e =
       let same : NotLocallyClosed k x y z ≡ fault = cc in
-      subst (IsFirstRefusal file) same (record { holds = first.holds; first = no_part_before 13 4 (k ∷ x ∷ y ∷ z ∷ []) refl (omega arith) first.first })
+      subst (IsFirstRefusal file) same (record { holds = (whole, first.holds); first = no_part_before 13 4 (k ∷ x ∷ y ∷ z ∷ []) refl (omega arith) first.first })
   first_parts known part.NoMemory first fault e = absurd (no_memory first.holds)
     where
       no_memory : ¬ FailsAsParts file part.NoMemory
       no_memory f = f.2
+
+-- of a hull
+module _ (file : File) (clear : IsClear file 11) (hull : file.field.is_hull ≡ true) where
+  not_whole : file.field.is_hull ≡ false → ⊥
+  not_whole e = false≢true (sym e ∙ hull)
+
+  -- parts that have cells refuse nothing
+  pub hull_accepted : ((k : ℕ) → ¬ FailsAsParts file (part.EmptyPart k)) → (fault : FileFault) → ¬ Fails file fault
+  hull_accepted none (RepeatedCell l p) = λ f. not_whole f.0
+  hull_accepted none (EmptyPart k) = none k
+  hull_accepted none (NotLocallyClosed k x y z) = λ f. not_whole f.0
+  hull_accepted none NotJson = clear.none NotJson (omega arith)
+  hull_accepted none fault = clear.none fault (omega arith)
+
+  of_repeated : (other : FileFault) → number other ≡ 11 → ¬ Fails file other
+  of_repeated (RepeatedCell l p) e f = not_whole f.0
+  of_repeated other e f = absurd (omega (arith, e))
+
+  of_empty : (Q : List ℕ → Type 0) → ((k : ℕ) → Q (k ∷ []) → ¬ Fails file (EmptyPart k)) → (other : FileFault) → number other ≡ 12 → Q (place other) → ¬ Fails file other
+  of_empty Q none (EmptyPart k) e q = none k q
+  of_empty Q none other e q = absurd (omega arith)
+
+  -- the first part without cells is the first refusal
+  pub first_empty : (k : ℕ) → FailsAsParts file (part.EmptyPart k) → ((j : ℕ) → j < k → ¬ FailsAsParts file (part.EmptyPart j)) → IsFirstRefusal file (EmptyPart k)
+  first_empty k fails before = first-next number place (Fails file) 12 (clear-next number place (Fails file) 11 clear of_repeated) (EmptyPart k) refl fails
+      (of_empty (λ a. Precedes a (k ∷ [])) (λ j p. elim p [ inl less ↦ before j less | inr both ↦ absurd both.1 ]))

@@ -6,7 +6,6 @@ pub mod RefusalOrder
 pub mod Refusals
 pub mod Told
 pub mod Places
-pub mod ListingMeaning
 pub mod Problem
 pub mod Errors
 pub mod ProblemMeaning

@@ -4,13 +4,12 @@
 -- The wording is this project's own.
 use Rattle.std.specs.Prelude.{ℕ, List, [], ◌∷◌}
 use Rattle.conley_input.specs.declared.error.FileFault.{FileFault}
-use Rattle.conley_input.specs.declared.error.FileFault.TheVariants.{NotJson, BadShape, NotBuilt, UnknownField, TooMany, BadLabel, DuplicateLabel, BadIncidence, BadSimplex, BadAxes, BadCube, TooManyCells, NotBoundary, UnknownCell, RepeatedCell, EmptyPart, NotLocallyClosed}
+use Rattle.conley_input.specs.declared.error.FileFault.TheVariants.{NotJson, BadShape, UnknownField, TooMany, BadLabel, DuplicateLabel, BadIncidence, BadSimplex, BadAxes, BadCube, TooManyCells, NotBoundary, UnknownCell, RepeatedCell, EmptyPart, NotLocallyClosed}
 
--- the number of a refusal; one for input that isn't built comes after those of the form
+-- the number of a refusal
 abbrev pub number : FileFault → ℕ
 number NotJson = 1
 number (BadShape member) = 2
-number NotBuilt = 2
 number (UnknownField order) = 3
 number (TooMany limit least) = 4
 number (BadLabel k) = 5
@@ -30,7 +29,6 @@ number (NotLocallyClosed k x y z) = 13
 abbrev pub place : FileFault → List ℕ
 place NotJson = []
 place (BadShape member) = member ∷ []
-place NotBuilt = []
 place (UnknownField order) = []
 place (TooMany limit least) = limit ∷ []
 place (BadLabel k) = k ∷ []

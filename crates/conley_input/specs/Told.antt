@@ -4,7 +4,7 @@
 -- The wording is this project's own.
 use Rattle.std.specs.Prelude.{ℕ, List, [], ◌∷◌, ◌++◌, codes, decimal}
 use Rattle.conley_input.specs.declared.error.FileFault.{FileFault}
-use Rattle.conley_input.specs.declared.error.FileFault.TheVariants.{NotJson, BadShape, NotBuilt, UnknownField, TooMany, BadLabel, DuplicateLabel, BadIncidence, BadSimplex, BadAxes, BadCube, TooManyCells, NotBoundary, UnknownCell, RepeatedCell, EmptyPart, NotLocallyClosed}
+use Rattle.conley_input.specs.declared.error.FileFault.TheVariants.{NotJson, BadShape, UnknownField, TooMany, BadLabel, DuplicateLabel, BadIncidence, BadSimplex, BadAxes, BadCube, TooManyCells, NotBoundary, UnknownCell, RepeatedCell, EmptyPart, NotLocallyClosed}
 
 abbrev pub name : ℕ → List ℕ
 name number = codes "E" ++ decimal number
@@ -13,7 +13,6 @@ name number = codes "E" ++ decimal number
 abbrev pub words_of_file : FileFault → List (List ℕ)
 words_of_file NotJson = name 1 ∷ []
 words_of_file (BadShape member) = name 2 ∷ decimal member ∷ []
-words_of_file NotBuilt = name 0 ∷ []
 words_of_file (UnknownField order) = name 3 ∷ decimal order ∷ []
 words_of_file (TooMany limit least) = name 4 ∷ decimal limit ∷ decimal least ∷ []
 words_of_file (BadLabel k) = name 5 ∷ decimal k ∷ []

@@ -14,13 +14,11 @@ pub enum FileFault {
     NotJson,
     /// E2: the member with this number is missing or has another form.
     BadShape(u8),
-    /// E0: the file is of a kind that can't be read yet: its field isn't given whole, or it names sets.
-    NotBuilt,
     /// E3: no field has this order.
     UnknownField(u32),
     /// E4: a limit is passed: its number, and the least number that passes it.
     TooMany(u8, u64),
-    /// E5: this label breaks the rule of labels.
+    /// E5: this label breaks the rule of labels. The labels of cells or vertices are counted first, then the names of sets.
     BadLabel(u32),
     /// E6: two cells, the lesser first, have equal labels.
     DuplicateLabel(u32, u32),
@@ -36,13 +34,13 @@ pub enum FileFault {
     TooManyCells(u32),
     /// E9: the boundary of the boundary of the first cell isn't zero at the second.
     NotBoundary(u32, u32),
-    /// E10: no cell has the label at this list and place.
+    /// E10: no cell has the label at this list and place. The lists of parts are counted first, then those of named sets.
     UnknownCell(u32, u32),
-    /// E11: the cell at this list and place stood earlier.
+    /// E11: in a field given whole, the cell at this list and place stood earlier.
     RepeatedCell(u32, u32),
-    /// E12: this part is empty.
+    /// E12: this listed part is empty.
     EmptyPart(u32),
-    /// E13: this part isn't locally closed: it has a gap of these three cells.
+    /// E13: in a field given whole, this part isn't locally closed: it has a gap of these three cells.
     NotLocallyClosed(u32, u32, u32, u32),
 }
 

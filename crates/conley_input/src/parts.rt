@@ -1,20 +1,17 @@
-//! The listed parts of a file, by the numbers of their cells.
+//! The listed parts and the named sets of a file, by the numbers of their cells.
 
-ghost use Rattle.std.specs.Prelude.{◌≡◌, ◌<◌, ◌++◌, ◌∷◌, ◌^◌, ℕ, [], Some, None, All, map, length, slice_index_or, IfOk, IfSome, OnOk, IsErrOf};
-ghost use Rattle.conley_walk.specs.Lists.{items_of, entries_of, ListedStep};
-ghost use Rattle.conley_mvf.specs.Partition.{IsWhole, IsMultivectorField};
+ghost use Rattle.std.specs.Prelude.{◌≡◌, ◌<◌, ◌≤◌, ◌++◌, ◌∷◌, ℕ, [], Some, None, All, map, take, drop, length, slice_index_or, IfOk, IfSome, OnOk, IsErrOf};
+ghost use Rattle.conley_walk.specs.Lists.{items_of, ListedStep};
+ghost use Rattle.conley_input.specs.File as spec;
 ghost use Rattle.conley_input.specs.Meaning.{texts, bytes_of};
-ghost use Rattle.conley_input.specs.Errors as errors;
-ghost use Rattle.conley_input.specs.Listing as spec;
-ghost use Rattle.conley_input.specs.Listing.{cell_of, numbers_of, parts_in};
+ghost use Rattle.conley_input.specs.Listing.{cell_of, numbers_of, cells_in};
 ghost use Rattle.conley_input.specs.Places.{FindsFirst, FindsFirstPlace};
 ghost use Rattle.conley_input.specs.Problem.{IsListedAs};
-ghost use Rattle.conley_input.specs.Refusals.{Fails, IsUnknown, IsFirstRefusal, IsClear};
+ghost use Rattle.conley_input.specs.Refusals.{IsUnknown, IsFirstRefusal, IsClear};
 
 use crate::error::{FileFault, InputError, kept};
 use conley_field::AnyField;
 use conley_lefschetz::Complex;
-use conley_mvf::{PartError, Partition};
 use std::alloc::{AllocError, Global};
 
 /// The number of the cell with a label.
@@ -33,7 +30,7 @@ fn keep<T: Drop>(list: &mut Vec<T>, item: T) -> Result<(), AllocError>
     Ok(())
 }
 
-/// The numbers of the cells of a part, or the refusal of its first label that no cell has.
+/// The numbers of the cells of a part or of a named set, or the refusal of its first label that no cell has.
 fn number_part(
     alloc: Global,
     complex: &Complex<AnyField>,
@@ -60,7 +57,7 @@ fn number_part(
     Ok(cells)
 }
 
-/// The numbers of the cells of each part, or the refusal of the first label that no cell has.
+/// The numbers of the cells of each part and named set, or the refusal of the first label that no cell has.
 fn number_parts(
     alloc: Global,
     complex: &Complex<AnyField>,
@@ -80,54 +77,46 @@ fn number_parts(
     Ok(lists)
 }
 
-/// Refuses lists that are too long to be numbered together. No memory holds such ones.
-fn refuse_many(lists: &[Vec<u32>]) -> Result<(), InputError>
-    ensures count { OnOk result (length lists.now < 2 ^ 32) }
-    ensures entries { OnOk result (length (entries_of (items_of lists.now)) < 2 ^ 32) }
-    ensures err { (error : _) → IsErrOf result error → error ≡ InputError.NoMemory }
+/// The labels of each part, then of each named set.
+fn joined(parts: Vec<Vec<String>>, sets: Vec<Vec<String>>) -> Result<Vec<Vec<String>>, AllocError>
+    ensures { IfOk result (λ lists. lists.items ≡ parts.items ++ sets.items) }
 {
-    if lists.len() > u32::MAX as usize {
-        return Err(InputError::NoMemory);
-    }
-    let mut entries = 0;
-    for list in lists {
-        if list.len() > u32::MAX as usize - entries {
-            return Err(InputError::NoMemory);
-        }
-        entries += list.len();
-    }
-    Ok(())
+    let mut lists = parts;
+    let mut sets = sets;
+    lists.append(&mut sets)?;
+    Ok(lists)
 }
 
-/// The refusal of a file whose parts make no partition of its cells.
-fn part_error(error: PartError) -> InputError
-    ensures { result ≡ errors.part_error error }
+/// The first of these lists, and the others.
+fn apart(lists: Vec<Vec<u32>>, count: usize) -> Result<(Vec<Vec<u32>>, Vec<Vec<u32>>), AllocError>
+    requires { count ≤ length lists.items }
+    ensures first { IfOk result (λ pair. pair.0.items ≡ take count lists.items) }
+    ensures others { IfOk result (λ pair. pair.1.items ≡ drop count lists.items) }
 {
-    match error {
-        PartError::Unknown(list, place) => InputError::Bad(FileFault::UnknownCell(list, place)),
-        PartError::Repeated(list, place) => InputError::Bad(FileFault::RepeatedCell(list, place)),
-        PartError::EmptyPart(k) => InputError::Bad(FileFault::EmptyPart(k)),
-        PartError::Gap(k, x, y, z) => InputError::Bad(FileFault::NotLocallyClosed(k, x, y, z)),
-        PartError::NoMemory => InputError::NoMemory,
-    }
+    let mut first = lists;
+    let others = first.split_off(count)?;
+    Ok((first, others))
 }
 
-/// The partition of the cells into the listed parts, or the first refusal of parts. It is said for each file that lists this complex and these parts.
-pub(crate) fn read_parts(
+/// The numbers of the cells of each part and of each named set, or the first refusal of a label.
+/// It is said for each file that lists this complex and these labels.
+pub(crate) fn read_lists(
     alloc: Global,
     complex: &Complex<AnyField>,
-    parts: &[Vec<String>],
-) -> Result<Partition, InputError>
-    ensures ok { (file : spec.Listing) → IsListedAs file complex.now.1 (map texts parts.now) → IsClear file 10 →
-        IfOk result (λ partition. ((fault : _) → ¬ Fails file fault) × IsWhole (parts_in complex.now.1.labels file.parts) partition) }
-    ensures field { IfOk result (IsMultivectorField complex.now.1.faces) }
-    ensures err { (file : spec.Listing) → IsListedAs file complex.now.1 (map texts parts.now) → IsClear file 10 →
+    parts: Vec<Vec<String>>,
+    sets: Vec<Vec<String>>,
+) -> Result<(Vec<Vec<u32>>, Vec<Vec<u32>>), InputError>
+    ensures parts { IfOk result (λ lists. items_of lists.0.items ≡ cells_in complex.now.1.labels (map texts parts.items)) }
+    ensures sets { IfOk result (λ lists. items_of lists.1.items ≡ cells_in complex.now.1.labels (map texts sets.items)) }
+    ensures clear { (file : spec.File) → IsListedAs file complex.now.1 (map texts parts.items) (map texts sets.items) → IsClear file 10 → IfOk result (λ _. IsClear file 11) }
+    ensures parts_within { IfOk result (λ lists. (k x : ℕ) → ListedStep (items_of lists.0.items) k x → x < length complex.now.1.dims) }
+    ensures sets_within { IfOk result (λ lists. (k x : ℕ) → ListedStep (items_of lists.1.items) k x → x < length complex.now.1.dims) }
+    ensures err { (file : spec.File) → IsListedAs file complex.now.1 (map texts parts.items) (map texts sets.items) → IsClear file 10 →
         (fault : _) → IsErrOf result (InputError.Bad fault) → IsFirstRefusal file fault }
 {
-    let lists = number_parts(alloc, complex, parts)?;
-    refuse_many(&lists)?;
-    match Partition::whole(alloc, complex.faces(), &lists) {
-        Ok(partition) => Ok(partition),
-        Err(error) => Err(part_error(error)),
-    }
+    let count = parts.len();
+    let labels = joined(parts, sets)?;
+    let lists = number_parts(alloc, complex, &labels)?;
+    let pair = apart(lists, count)?;
+    Ok(pair)
 }

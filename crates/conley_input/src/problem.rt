@@ -1,18 +1,19 @@
 //! A problem from the bytes of a file.
 
-ghost use Rattle.std.specs.Prelude.{◌≡◌, ℕ, Some, None, Ok, Err, IfOk, IsErrOf, map, option_map, string_bytes};
+ghost use Rattle.std.specs.Prelude.{◌≡◌, Some, None, Ok, Err, IfOk, IsErrOf, length};
 ghost use Rattle.serde_json.specs.View.{view};
 ghost use Rattle.conley_json.specs.Json.{json_of};
-ghost use Rattle.conley_input.specs.ListingMeaning as listed;
-ghost use Rattle.conley_input.specs.Problem.{form_of, Reads, Refuses, ReadsListing, IsSound};
+ghost use Rattle.conley_input.specs.Meaning.{file_of};
+ghost use Rattle.conley_input.specs.Problem.{form_of, Reads, Refuses, ReadsFile, IsSound};
 ghost use Rattle.conley_input.specs.Refusals.{IsFirstRefusal};
 ghost use Rattle.conley_input.specs.ProblemMeaning.{meaning_of};
 
 use crate::complex::read_complex;
 use crate::error::{FileFault, InputError};
+use crate::field::read_field;
 use crate::file::{FileError, ProblemFile};
-use crate::listing::Listing;
-use crate::parts::read_parts;
+use crate::parts::read_lists;
+use crate::sets::{NamedSet, read_sets};
 use conley_field::AnyField;
 use conley_json::{JsonError, read_json};
 use conley_lefschetz::Complex;
@@ -20,11 +21,14 @@ use conley_mvf::Partition;
 use serde_json::Value;
 use std::alloc::Global;
 
-/// A complex over a prime field, and the parts of its cells: those that the file lists, and one for each other cell.
+/// A complex over a prime field, the parts of its cells, and named sets of cells in the order of the file.
+/// The parts of a field that is given whole are those that the file lists, and one for each other cell. Those of a hull are the finest ones
+/// that are locally closed and in which the cells of each listed part lie together.
 #[derive(Drop)]
 pub struct Problem {
     pub complex: Complex<AnyField>,
     pub partition: Partition,
+    pub sets: Vec<NamedSet>,
 }
 
 /// The bytes as a JSON value.
@@ -40,35 +44,37 @@ fn read_value(alloc: Global, bytes: &[u8]) -> Result<Value, InputError>
 }
 
 /// What the bytes list, or the refusal of their form.
-fn read_listing(alloc: Global, bytes: &[u8]) -> Result<Listing, InputError>
-    ensures ok { IfOk result (λ listing. form_of bytes.now ≡ Ok (listed.meaning_of listing)) }
+fn read_file(alloc: Global, bytes: &[u8]) -> Result<ProblemFile, InputError>
+    ensures ok { IfOk result (λ file. form_of bytes.now ≡ Ok (file_of file)) }
+    ensures count { IfOk result (λ file. length file.sets.names.items ≡ length file.sets.lists.items) }
     ensures err { (fault : _) → IsErrOf result (InputError.Bad fault) → form_of bytes.now ≡ Err fault }
 {
     let value = read_value(alloc, bytes)?;
-    let file = match ProblemFile::read(alloc, &value) {
-        Ok(file) => file,
-        Err(FileError::Member(number)) => {
-            return Err(InputError::Bad(FileFault::BadShape(number)));
-        }
-        Err(FileError::NoMemory) => return Err(InputError::NoMemory),
-    };
-    match Listing::from_file(file) {
-        Some(listing) => Ok(listing),
-        None => Err(InputError::Bad(FileFault::NotBuilt)),
+    match ProblemFile::read(alloc, &value) {
+        Ok(file) => Ok(file),
+        Err(FileError::Member(number)) => Err(InputError::Bad(FileFault::BadShape(number))),
+        Err(FileError::NoMemory) => Err(InputError::NoMemory),
     }
 }
 
-/// The problem that a listing stands for, or its first refusal.
-fn build(alloc: Global, listing: Listing) -> Result<Problem, InputError>
-    ensures ok { IfOk result (λ problem. ReadsListing (listed.meaning_of listing) (meaning_of problem)) }
+/// The problem that a file stands for, or its first refusal.
+fn build(alloc: Global, file: ProblemFile) -> Result<Problem, InputError>
+    requires { length file.sets.names.items ≡ length file.sets.lists.items }
+    ensures ok { IfOk result (λ problem. ReadsFile (file_of file) (meaning_of problem)) }
     ensures sound { IfOk result (λ problem. IsSound (meaning_of problem)) }
-    ensures err { (fault : _) → IsErrOf result (InputError.Bad fault) → IsFirstRefusal (listed.meaning_of listing) fault }
+    ensures err { (fault : _) → IsErrOf result (InputError.Bad fault) → IsFirstRefusal (file_of file) fault }
 {
-    let (complex, labels) = read_complex(alloc, listing)?;
-    let partition = read_parts(alloc, &complex, &labels)?;
+    let (complex, field, listed) = read_complex(alloc, file)?;
+    let (parts, cells) = read_lists(alloc, &complex, field.parts, listed.lists)?;
+    let partition = read_field(alloc, &complex, field.is_hull, &parts)?;
+    let sets = read_sets(alloc, &listed.names, &cells)?;
     let _laws = complex.count();
     let _numbers = partition.count();
-    Ok(Problem { complex, partition })
+    Ok(Problem {
+        complex,
+        partition,
+        sets,
+    })
 }
 
 impl Problem {
@@ -78,7 +84,7 @@ impl Problem {
         ensures sound { IfOk result (λ problem. IsSound (meaning_of problem)) }
         ensures err { (fault : _) → IsErrOf result (InputError.Bad fault) → Refuses bytes.now fault }
     {
-        let listing = read_listing(alloc, bytes)?;
-        build(alloc, listing)
+        let file = read_file(alloc, bytes)?;
+        build(alloc, file)
     }
 }

@@ -8,14 +8,13 @@ use crate::FileFault;
 use conley_first::Told;
 
 impl FileFault {
-    /// The refusal as it is told: E1 to E13, or E0, and the numbers that it keeps. For generated cells the kind stands before the kept number. No memory.
+    /// The refusal as it is told: E1 to E13, and the numbers that it keeps. For generated cells the kind stands before the kept number. No memory.
     pub fn told(&self) -> Told
         ensures { words_of result ≡ words_of_file self.now }
     {
         match *self {
             FileFault::NotJson => Told::new(b'E', 1, &[]),
             FileFault::BadShape(member) => Told::new(b'E', 2, &[member as u64]),
-            FileFault::NotBuilt => Told::new(b'E', 0, &[]),
             FileFault::UnknownField(order) => Told::new(b'E', 3, &[order as u64]),
             FileFault::TooMany(limit, least) => Told::new(b'E', 4, &[limit as u64, least]),
             FileFault::BadLabel(k) => Told::new(b'E', 5, &[k as u64]),

@@ -3,7 +3,7 @@
 use crate::running::Row;
 
 /// Files that are refused. Where two faults stand in a file, the earlier is told.
-pub(crate) const REFUSED: [Row; 33] = [
+pub(crate) const REFUSED: [Row; 38] = [
     // Cut.
     (
         r#"{"version":1,"scalars":2,"complex":{"kind":"lefsch"#,
@@ -36,13 +36,7 @@ pub(crate) const REFUSED: [Row; 33] = [
     (
         r#"{"version":1,"scalars":6,"complex":{"kind":"lefschetz","cells":[["a",0],["b",0],["ab",1]],
             "incidences":[[2,0,1],[2,1,1]]},"field":{"kind":"hull","parts":[]}}"#,
-        "refused E0\n",
-    ),
-    // A named set.
-    (
-        r#"{"version":1,"scalars":2,"complex":{"kind":"lefschetz","cells":[["a",0],["b",0],["ab",1]],
-            "incidences":[[2,0,1],[2,1,1]]},"field":{"kind":"whole","parts":[]},"sets":[["s",["a"]]]}"#,
-        "refused E0\n",
+        "refused E3 6\n",
     ),
     // An order of no field.
     (
@@ -85,6 +79,24 @@ pub(crate) const REFUSED: [Row; 33] = [
     (
         r#"{"version":1,"scalars":2,"complex":{"kind":"lefschetz","cells":[["a",0],["a b",0]],
             "incidences":[]},"field":{"kind":"whole","parts":[]}}"#,
+        "refused E5 1\n",
+    ),
+    // A long name.
+    (
+        r#"{"version":1,"scalars":2,"complex":{"kind":"lefschetz","cells":[["a",0],["b",0],["ab",1]],
+            "incidences":[[2,0,1],[2,1,1]]},"field":{"kind":"whole","parts":[]},"sets":[["sssssssssssssssssssssssssssssssssssssssssssssssssssssssssssssssss",["zz"]]]}"#,
+        "refused E4 5 65\n",
+    ),
+    // A name with a blank after one with a full stop, and an incidence of no cell.
+    (
+        r#"{"version":1,"scalars":2,"complex":{"kind":"lefschetz","cells":[["a",0],["b",0],["ab",1]],
+            "incidences":[[2,0,1],[9,1,1]]},"field":{"kind":"whole","parts":[]},"sets":[["s.t",[]],["s t",[]]]}"#,
+        "refused E5 4\n",
+    ),
+    // A bad name, and a bad label.
+    (
+        r#"{"version":1,"scalars":2,"complex":{"kind":"lefschetz","cells":[["a",0],["",0],["ab",1]],
+            "incidences":[[2,0,1],[2,1,1]]},"field":{"kind":"whole","parts":[]},"sets":[["",[]]]}"#,
         "refused E5 1\n",
     ),
     // Equal labels.
@@ -156,6 +168,18 @@ pub(crate) const REFUSED: [Row; 33] = [
             "incidences":[[2,0,1],[2,1,1]]},"field":{"kind":"whole","parts":[["a","zz"],["a"]]}}"#,
         "refused E10 0 1\n",
     ),
+    // A label of a named set that no cell has.
+    (
+        r#"{"version":1,"scalars":2,"complex":{"kind":"lefschetz","cells":[["a",0],["b",0],["ab",1]],
+            "incidences":[[2,0,1],[2,1,1]]},"field":{"kind":"whole","parts":[]},"sets":[["s",["zz"]]]}"#,
+        "refused E10 0 0\n",
+    ),
+    // The same behind parts, and a cell that stood earlier.
+    (
+        r#"{"version":1,"scalars":2,"complex":{"kind":"lefschetz","cells":[["a",0],["b",0],["ab",1]],
+            "incidences":[[2,0,1],[2,1,1]]},"field":{"kind":"whole","parts":[["a","a"],["b"]]},"sets":[["r",["a"]],["s",["a","zz"]]]}"#,
+        "refused E10 3 1\n",
+    ),
     // A cell that stood earlier.
     (
         r#"{"version":1,"scalars":2,"complex":{"kind":"lefschetz","cells":[["a",0],["b",0],["ab",1]],
@@ -179,6 +203,13 @@ pub(crate) const REFUSED: [Row; 33] = [
         r#"{"version":1,"scalars":2,"complex":{"kind":"lefschetz","cells":[["a",0],["b",0],["c",0],["ab",1],["bc",1],["ca",1],["abc",2]],
             "incidences":[[3,0,1],[3,1,1],[4,1,1],[4,2,1],[5,2,1],[5,0,1],[6,3,1],[6,4,1],[6,5,1]]},
             "field":{"kind":"whole","parts":[["a","abc"],[]]}}"#,
+        "refused E12 1\n",
+    ),
+    // An empty part of a hull, in which a cell stands twice.
+    (
+        r#"{"version":1,"scalars":2,"complex":{"kind":"lefschetz","cells":[["a",0],["b",0],["c",0],["ab",1],["bc",1],["ca",1],["abc",2]],
+            "incidences":[[3,0,1],[3,1,1],[4,1,1],[4,2,1],[5,2,1],[5,0,1],[6,3,1],[6,4,1],[6,5,1]]},
+            "field":{"kind":"hull","parts":[["a","a"],[]]}}"#,
         "refused E12 1\n",
     ),
     // A part with a gap.

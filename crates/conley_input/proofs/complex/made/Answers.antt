@@ -1,18 +1,19 @@
-use Rattle.std.proofs.Common.{◌≡◌, ℕ, ℤ, List, Vec, String, IfOk, OnOk, ap, sym, ◌∙◌, subst, arith}
+use Rattle.std.proofs.Common.{◌≡◌, ℕ, ℤ, List, Vec, String, IfOk, OnOk, All, length, ◌≤◌, ap, sym, ◌∙◌, subst, arith}
 use Rattle.std.specs.declared.alloc.Global.{Global}
 use Rattle.conley_field.specs.AnyField.{arithmetic_of}
 use Rattle.conley_walk.specs.Lists.{items_of}
 use Rattle.conley_walk.proofs.ListLemmas.{length-items_of}
 use Rattle.conley_lefschetz.specs.Listing.{bytes_of}
 use Rattle.conley_input.specs.File.{Complex, lefschetz, simplicial, cubical}
-use Rattle.conley_input.specs.Listing.{IsComplexFor}
-use Rattle.conley_input.specs.Meaning.{own, cells_of, complex_of}
-use Rattle.conley_input.specs.Refusals.{PassesLimit, FailsIn, IsFirstIn}
+use Rattle.conley_input.specs.Limits.{most_cells, most_listed, most_dimension}
+use Rattle.conley_input.specs.Listing.{IsComplexFor, labels_of, dims_of, count_of}
+use Rattle.conley_input.specs.Meaning.{cells_of, complex_of}
+use Rattle.conley_input.specs.Refusals.{FailsIn, IsFirstIn}
 use Rattle.conley_input.specs.declared.file.ComplexFile.{ComplexFile}
 use Rattle.conley_input.specs.declared.file.ComplexFile.TheVariants.{Lefschetz, Simplicial, Cubical}
 use Rattle.conley_input.specs.declared.error.FileFault.{FileFault}
 use Rattle.conley_input.proofs.CellLemmas.{own-items, own-lists}
-use Rattle.conley_input.proofs.LimitLemmas.{few_labels, few_listed, dims_within, length-cells}
+use Rattle.conley_input.proofs.LimitLemmas.{length-cells}
 use Rattle.conley_input.proofs.TextLemmas.{length-bytes_of}
 use Rattle.conley_input.proofs.complex.made.Goals as goal
 
@@ -32,13 +33,11 @@ listed_cubes complex axes cubes lists is value = ap complex_of is ∙ ap (cubica
 
 pub read_listed-requires-clause-count : goal.read_listed-requires-clause-count
 read_listed-requires-clause-count c =
-    let none = subst (λ (l : Complex). (limit least : ℕ) → ¬ PassesLimit l limit least) (ap complex_of c.in-Lefschetz.is) c.requires in
-    omega (arith, few_labels (lefschetz (cells_of c.in-Lefschetz.cells) (own c.in-Lefschetz.incidences)) none, length-cells (λ (cell : List ℕ × ℕ). cell.0) c.in-Lefschetz.cells.items)
+    let few = subst (λ (l : Complex). length (labels_of l) ≤ most_cells) (ap complex_of c.in-Lefschetz.is) c.requires.labels in
+    omega (arith, few, length-cells (λ (cell : List ℕ × ℕ). cell.0) c.in-Lefschetz.cells.items)
 
 pub read_listed-requires-clause-dims : goal.read_listed-requires-clause-dims
-read_listed-requires-clause-dims c =
-    let none = subst (λ (l : Complex). (limit least : ℕ) → ¬ PassesLimit l limit least) (ap complex_of c.in-Lefschetz.is) c.requires in
-    dims_within (lefschetz (cells_of c.in-Lefschetz.cells) (own c.in-Lefschetz.incidences)) none
+read_listed-requires-clause-dims c = subst (λ (l : Complex). All (λ dim. dim ≤ most_dimension) (dims_of l)) (ap complex_of c.in-Lefschetz.is) c.requires.dims
 
 pub returns-in-Lefschetz-clause-err : goal.returns-in-Lefschetz-clause-err
 returns-in-Lefschetz-clause-err c = λ fault e.
@@ -48,14 +47,14 @@ returns-in-Lefschetz-clause-err c = λ fault e.
 pub read_simplices-requires-clause-few_vertices : goal.read_simplices-requires-clause-few_vertices
 read_simplices-requires-clause-few_vertices c =
     let same = listed_simplices c.args.complex c.in-Simplicial.vertices c.in-Simplicial.simplices c.deref-in-Simplicial.result.now c.deref-in-Simplicial-2.result.now c.in-Simplicial.is c.deref-in-Simplicial.ensures.value c.deref-in-Simplicial-2.ensures.value in
-    let none = subst (λ (l : Complex). (limit least : ℕ) → ¬ PassesLimit l limit least) same c.requires in
-    omega (arith, few_labels (simplicial (bytes_of c.deref-in-Simplicial.result.now) (items_of c.deref-in-Simplicial-2.result.now)) none, length-bytes_of c.deref-in-Simplicial.result.now)
+    let few = subst (λ (l : Complex). length (labels_of l) ≤ most_cells) same c.requires.labels in
+    omega (arith, few, length-bytes_of c.deref-in-Simplicial.result.now)
 
 pub read_simplices-requires-clause-few_simplices : goal.read_simplices-requires-clause-few_simplices
 read_simplices-requires-clause-few_simplices c =
     let same = listed_simplices c.args.complex c.in-Simplicial.vertices c.in-Simplicial.simplices c.deref-in-Simplicial.result.now c.deref-in-Simplicial-2.result.now c.in-Simplicial.is c.deref-in-Simplicial.ensures.value c.deref-in-Simplicial-2.ensures.value in
-    let none = subst (λ (l : Complex). (limit least : ℕ) → ¬ PassesLimit l limit least) same c.requires in
-    omega (arith, few_listed (simplicial (bytes_of c.deref-in-Simplicial.result.now) (items_of c.deref-in-Simplicial-2.result.now)) none, length-items_of c.deref-in-Simplicial-2.result.now)
+    let few = subst (λ (l : Complex). count_of l ≤ most_listed) same c.requires.listed in
+    omega (arith, few, length-items_of c.deref-in-Simplicial-2.result.now)
 
 pub returns-in-Simplicial-clause-complex : goal.returns-in-Simplicial-clause-complex
 returns-in-Simplicial-clause-complex c =
@@ -75,8 +74,8 @@ returns-in-Simplicial-clause-err c = λ fault e.
 pub read_cubes-requires : goal.read_cubes-requires
 read_cubes-requires c =
     let same = listed_cubes c.args.complex c.in-Cubical.axes c.in-Cubical.cubes c.deref-in-Cubical.result.now c.in-Cubical.is c.deref-in-Cubical.ensures.value in
-    let none = subst (λ (l : Complex). (limit least : ℕ) → ¬ PassesLimit l limit least) same c.requires in
-    omega (arith, few_listed (cubical c.in-Cubical.axes (items_of c.deref-in-Cubical.result.now)) none, length-items_of c.deref-in-Cubical.result.now)
+    let few = subst (λ (l : Complex). count_of l ≤ most_listed) same c.requires.listed in
+    omega (arith, few, length-items_of c.deref-in-Cubical.result.now)
 
 pub returns-in-Cubical-clause-complex : goal.returns-in-Cubical-clause-complex
 returns-in-Cubical-clause-complex c =

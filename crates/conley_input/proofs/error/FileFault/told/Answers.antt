@@ -9,9 +9,6 @@ returns-in-NotJson c = c.new.ensures ∙ ap words_of_file (sym c.in-NotJson.is)
 pub returns-in-BadShape : goal.returns-in-BadShape
 returns-in-BadShape c = c.new-in-BadShape.ensures ∙ ap words_of_file (sym c.in-BadShape.is)
 
-pub returns-in-NotBuilt : goal.returns-in-NotBuilt
-returns-in-NotBuilt c = c.new-in-NotBuilt.ensures ∙ ap words_of_file (sym c.in-NotBuilt.is)
-
 pub returns-in-UnknownField : goal.returns-in-UnknownField
 returns-in-UnknownField c = c.new-in-UnknownField.ensures ∙ ap words_of_file (sym c.in-UnknownField.is)
 

@@ -1,6 +1,6 @@
 use Rattle.std.proofs.Common.{◌≡◌, ◌<◌, ◌^◌, length, take}
 use Rattle.conley_walk.specs.Lists.{items_of, entries_of}
-use Rattle.conley_input.proofs.parts.refuse_many.Given as goal
+use Rattle.conley_input.proofs.field.refuse_many.Given as goal
 
 -- the entries so far are counted
 abbrev pub invariant-loop-list : goal.invariant-loop-list
