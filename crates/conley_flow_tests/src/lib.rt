@@ -6,6 +6,8 @@ mod digraph_tests;
 #[cfg(test)]
 mod homology_tests;
 #[cfg(test)]
+mod hull_tests;
+#[cfg(test)]
 mod morse_tests;
 #[cfg(test)]
 mod mvf_tests;

@@ -10,7 +10,7 @@ use std::test::Fail;
 const TRIANGLE: [&[u32]; 7] = [&[], &[], &[], &[0, 1], &[1, 2], &[2, 0], &[3, 4, 5]];
 
 /// The faces of the triangle.
-fn triangle(alloc: Global) -> Result<Faces, Fail>
+pub(crate) fn triangle(alloc: Global) -> Result<Faces, Fail>
     ensures { IfOk result (λ faces. length faces ≡ 7) }
 {
     let faces = Faces::new(alloc, &lists_of(alloc, &TRIANGLE)?)?;
@@ -30,7 +30,7 @@ fn whole(alloc: Global, rows: &[&[u32]]) -> Result<Partition, Fail>
 }
 
 /// The parts of the seven cells.
-fn numbers_of(partition: &Partition) -> [u32; 7]
+pub(crate) fn numbers_of(partition: &Partition) -> [u32; 7]
     requires { length partition.now ≡ 7 }
 {
     [
@@ -51,6 +51,22 @@ fn parts_are_numbered_by_least_cells(rt: HostRuntime) -> Result<(), Fail> {
     assert!(rt; numbers_of(&partition) == [0, 1, 2, 0, 3, 2, 4]);
     let cells = [partition.cells_of(2), partition.cells_of(3)];
     assert!(rt; cells == [[2, 5].as_slice(), [4].as_slice()]);
+    Ok(())
+}
+
+/// The triangle as the part of the cells that have the label 2.
+fn one_part(alloc: Global) -> Result<Partition, Fail>
+    ensures { IfOk result (λ parts. length parts ≡ 7) }
+{
+    let faces = triangle(alloc)?;
+    let labels = vec![in alloc; 2; 7]?;
+    Ok(Partition::labelled(alloc, &faces, &labels)?)
+}
+
+#[test]
+fn cells_with_one_label_are_a_part(rt: HostRuntime) -> Result<(), Fail> {
+    let partition = one_part(rt.alloc())?;
+    assert!(rt; numbers_of(&partition) == [0; 7]);
     Ok(())
 }
 
