@@ -5,8 +5,11 @@ usage: make.py FOLDER
 
 A planar vector field is sampled on a square grid. Each sample says which cells the flow leads through together.
 The field of the problem is the finest partition of the grid's cells into locally closed parts that keeps
-those cells together. For each flow two files are written, with the same cells and the same parts: FOLDER/NAME/cubical.json
-lists the squares of the grid, FOLDER/NAME/problem.json lists each cell and each incidence.
+those cells together: their hull. For each flow three files are written, with the same cells and the same parts.
+FOLDER/NAME/hull.json lists the squares of the grid and the cells that go together, and leaves the parts to the reader.
+FOLDER/NAME/cubical.json lists the squares and the parts, FOLDER/NAME/problem.json each cell, each incidence and the
+parts. The parts are made here as well, so that the program can be compared with it; whoever samples a flow needs none
+of that.
 
 A cell of the grid is named by doubled coordinates (a, b): even for a point, odd for an interval between two.
 """
@@ -172,8 +175,8 @@ def hull(cells, lists):
 
 # ---- the files
 
-def problem(complex, parts):
-    return {"version": 1, "scalars": 2, "complex": complex, "field": {"kind": "whole", "parts": parts}}
+def problem(complex, kind, lists):
+    return {"version": 1, "scalars": 2, "complex": complex, "field": {"kind": kind, "parts": lists}}
 
 
 def by_squares(n):
@@ -193,11 +196,12 @@ def problems(flow, n, low, high):
     """The name and the problem of each file."""
     cells = cells_of_grid(n)
     number = {cell: k for k, cell in enumerate(cells)}
-    parts = hull(cells, lists_of_samples(flow, n, low, high))
-    listed = sorted(sorted(number[cell] for cell in part) for part in parts if len(part) > 1)
-    labels = [[label(cells[k]) for k in part] for part in listed]
-    yield "cubical.json", problem(by_squares(n), labels)
-    yield "problem.json", problem(by_cells(cells, number), labels)
+    together = lists_of_samples(flow, n, low, high)
+    parts = sorted(sorted(number[cell] for cell in part) for part in hull(cells, together) if len(part) > 1)
+    labels = [[label(cells[k]) for k in part] for part in parts]
+    yield "hull.json", problem(by_squares(n), "hull", [[label(cell) for cell in listed] for listed in together])
+    yield "cubical.json", problem(by_squares(n), "whole", labels)
+    yield "problem.json", problem(by_cells(cells, number), "whole", labels)
 
 
 def main(words):
