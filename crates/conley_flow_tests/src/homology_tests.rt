@@ -66,7 +66,8 @@ fn mouth_is_a_ring(alloc: Global) -> Result<bool, Fail> {
 /// Whether an edge and one of its ends are regular.
 fn edge_is_regular(alloc: Global) -> Result<bool, Fail> {
     let complex = triangle(alloc)?;
-    has(alloc, &complex, &[0, 3], &[0, 0, 0], 0)
+    let set = complex.faces().between(alloc, 3, 0)?;
+    has(alloc, &complex, &set, &[0, 0, 0], 0)
 }
 
 /// Whether the triangle by itself has its numbers.
