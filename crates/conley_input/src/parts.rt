@@ -108,7 +108,8 @@ pub(crate) fn read_lists(
 ) -> Result<(Vec<Vec<u32>>, Vec<Vec<u32>>), InputError>
     ensures parts { IfOk result (λ lists. items_of lists.0.items ≡ cells_in complex.now.1.labels (map texts parts.items)) }
     ensures sets { IfOk result (λ lists. items_of lists.1.items ≡ cells_in complex.now.1.labels (map texts sets.items)) }
-    ensures clear { (file : spec.File) → IsListedAs file complex.now.1 (map texts parts.items) (map texts sets.items) → IsClear file 10 → IfOk result (λ _. IsClear file 11) }
+    ensures clear { (file : spec.File) → IsListedAs file complex.now.1 (map texts parts.items) (map texts sets.items) → IsClear file 10 →
+        IfOk result (λ _. IsClear file 11) }
     ensures parts_within { IfOk result (λ lists. (k x : ℕ) → ListedStep (items_of lists.0.items) k x → x < length complex.now.1.dims) }
     ensures sets_within { IfOk result (λ lists. (k x : ℕ) → ListedStep (items_of lists.1.items) k x → x < length complex.now.1.dims) }
     ensures err { (file : spec.File) → IsListedAs file complex.now.1 (map texts parts.items) (map texts sets.items) → IsClear file 10 →

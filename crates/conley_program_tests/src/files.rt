@@ -39,6 +39,12 @@ pub(crate) const TRIANGLE: &str =
         "incidences":[[3,0,1],[3,1,1],[4,1,1],[4,2,1],[5,2,1],[5,0,1],[6,3,1],[6,4,1],[6,5,1]]},
         "field":{"kind":"whole","parts":[["a","ab"],["b","bc"],["c","ca"]]}}"#;
 
+/// The hull of a vertex of this triangle with it, and named sets: one with a cell twice, and one without cells.
+pub(crate) const HULL: &str =
+    r#"{"version":1,"scalars":2,"complex":{"kind":"lefschetz","cells":[["a",0],["b",0],["c",0],["ab",1],["bc",1],["ca",1],["abc",2]],
+        "incidences":[[3,0,1],[3,1,1],[4,1,1],[4,2,1],[5,2,1],[5,0,1],[6,3,1],[6,4,1],[6,5,1]]},
+        "field":{"kind":"hull","parts":[["a","abc"]]},"sets":[["s.t",["b","b"]],["s.t",[]]]}"#;
+
 /// The same three edges with one edge more over two of the vertices, and a cell of dimension 2 over that and an edge of the ring.
 pub(crate) const HANDLE: &str =
     r#"{"version":1,"scalars":2,"complex":{"kind":"lefschetz","cells":[["a",0],["b",0],["c",0],["ab",1],["bc",1],["ca",1],["e",1],["t",2]],

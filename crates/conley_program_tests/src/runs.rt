@@ -1,6 +1,6 @@
 //! Whole runs of `classes FILE`, and of words without a form.
 
-use crate::files::{DOUBLED, EDGE, INTERVAL, NO_CELLS, RING, SIGNED_EDGE, TRIANGLE};
+use crate::files::{DOUBLED, EDGE, HULL, INTERVAL, NO_CELLS, RING, SIGNED_EDGE, TRIANGLE};
 use crate::large_files::{points, ring};
 use crate::refusals::REFUSED;
 use crate::running::{Row, cut_off, expect_printed, expect_refused, said_of, said_of_large};
@@ -9,7 +9,7 @@ use conley_tool::Outcome;
 use std::test::Fail;
 
 /// Problems, with the classes that are printed.
-const PRINTED: [Row; 7] = [
+const PRINTED: [Row; 8] = [
     (NO_CELLS, ""),
     (EDGE, "a ab\nb\n"),
     (SIGNED_EDGE, "a ab\nb\n"),
@@ -17,6 +17,7 @@ const PRINTED: [Row; 7] = [
     (TRIANGLE, "a b c ab bc ca\nabc\n"),
     (DOUBLED, "v\ne\nf\n"),
     (INTERVAL, "0\n1\n0+\n"),
+    (HULL, "a ab ca abc\nb\nc\nbc\n"),
 ];
 
 #[test]

@@ -40,7 +40,7 @@ returns-in-Err-Bad-clause-err c = λ fault e.
     let first = subst (λ (F : Arithmetic). IsFirstIn F (complex_of c.args.file.complex) refused) c.in_ok-scalars.ensures.field (c.in-Err-Bad.ensures.err refused (ap (λ x. Err x) is)) in
     let told : c.earlier.result ≡ fault = cc in
     subst (IsFirstRefusal file) told (first_complex file c.in_ok-refuse_sizes.ensures.ok refused c.earlier.result c.first_bad_name-bad_name.result first
-        c.first_bad_name-bad_name.ensures.some c.first_bad_name-bad_name.ensures.first c.first_bad_name-bad_name.ensures.none c.earlier.ensures.label c.earlier.ensures.name c.earlier.ensures.none)
+    c.first_bad_name-bad_name.ensures.some c.first_bad_name-bad_name.ensures.first c.first_bad_name-bad_name.ensures.none c.earlier.ensures.label c.earlier.ensures.name c.earlier.ensures.none)
 
 pub returns-in-Some-clause-err : goal.returns-in-Some-clause-err
 returns-in-Some-clause-err c = λ fault e.

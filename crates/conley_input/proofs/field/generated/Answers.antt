@@ -20,7 +20,7 @@ returns-in-Some-clause-err c = λ file is clear fault e.
     let empty : parts.IsEmptyList lists k = (omega (arith, found.0, length-items_of c.args.lists.now), found.1) in
     let told : FileFault.EmptyPart k ≡ fault = cc in
     subst (IsFirstRefusal file) told (first_empty file clear is.kind k (layout, is.complex, subst (λ ls. parts.IsEmptyList ls k) is.parts empty)
-        (λ j less f. found.2 j less (subst (λ ls. parts.IsEmptyList ls j) (sym is.parts) (in_parts file layout is.complex (part.EmptyPart j) f)).1))
+    (λ j less f. found.2 j less (subst (λ ls. parts.IsEmptyList ls j) (sym is.parts) (in_parts file layout is.complex (part.EmptyPart j) f)).1))
 
 -- no part is without cells
 pub returns-in-Ok-clause-ok : goal.returns-in-Ok-clause-ok
@@ -28,8 +28,8 @@ returns-in-Ok-clause-ok c = λ file is clear.
     let layout = c.args.complex.now.1 in
     let none = c.in_default.ensures in
     hull_accepted file clear is.kind (λ k f.
-        let empty = subst (λ ls. parts.IsEmptyList ls k) (sym is.parts) (in_parts file layout is.complex (part.EmptyPart k) f) in
-        none k (omega (arith, empty.0, length-items_of c.args.lists.now)) empty.1)
+    let empty = subst (λ ls. parts.IsEmptyList ls k) (sym is.parts) (in_parts file layout is.complex (part.EmptyPart k) f) in
+    none k (omega (arith, empty.0, length-items_of c.args.lists.now)) empty.1)
 
 -- each number is known
 pub returns-in-Err-Unknown-clause-err : goal.returns-in-Err-Unknown-clause-err
