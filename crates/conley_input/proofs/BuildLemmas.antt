@@ -1,7 +1,6 @@
 -- The problem that stands for a file, from what was made of it.
-use Rattle.std.proofs.Common.{◌≡◌, ◌<◌, ℕ, List, Bool, Vec, String, map, length, sym, ◌∙◌, ap, subst, arith}
+use Rattle.std.proofs.Common.{◌≡◌, ◌<◌, ℕ, List, Bool, map, length, sym, ◌∙◌, ap, subst, arith}
 use Rattle.std.specs.Prelude.{All}
-use Rattle.std.specs.declared.alloc.Global.{Global}
 use Rattle.conley_field.specs.Prime.{residues}
 use Rattle.conley_walk.specs.Lists.{items_of, ListedStep, IsOrderedCopy}
 use Rattle.conley_faces.specs.Face.{IsCellList}
