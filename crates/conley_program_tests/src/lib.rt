@@ -7,6 +7,8 @@ mod analyze_runs;
 #[cfg(test)]
 mod check_runs;
 #[cfg(test)]
+mod field_runs;
+#[cfg(test)]
 mod files;
 #[cfg(test)]
 mod json_tests;

@@ -31,11 +31,12 @@ fn a_file_that_is_no_problem_has_no_classes(rt: HostRuntime) -> Result<(), Fail>
 }
 
 /// Words without a form.
-const WORDS: [&[&str]; 8] = [
+const WORDS: [&[&str]; 9] = [
     &[],
     &["analyze"],
     &["classes"],
     &["classes", "f", "f"],
+    &["field"],
     &["morse"],
     &["morse", "f", "f"],
     &["check", "f"],
@@ -51,7 +52,7 @@ fn words_without_a_form_are_usage(rt: HostRuntime) -> Result<(), Fail> {
                 && said.is(
                     2,
                     "",
-                    "usage: conley classes FILE | morse FILE | analyze FILE | check FILE CERT\n"
+                    "usage: conley classes FILE | field FILE | morse FILE | analyze FILE | check FILE CERT\n"
                 )
         );
     }

@@ -1,3 +1,4 @@
 pub mod RangeLemmas
 pub mod TopLemmas
+pub mod PartLineLemmas
 pub mod OneDueLemmas

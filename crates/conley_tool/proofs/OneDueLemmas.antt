@@ -25,12 +25,14 @@ use Rattle.conley_tool.specs.Due.{Due, ends, prints}
 use Rattle.conley_tool.specs.Words.{Command}
 use Rattle.conley_tool.specs.Fetches.{Holds, IsLonger, AfterFetch, AfterProblem}
 use Rattle.conley_tool.specs.Classes.{ClassesAreDue}
+use Rattle.conley_tool.specs.Field.{FieldIsDue}
+use Rattle.conley_tool.proofs.PartLineLemmas.{field_lines_once}
 use Rattle.conley_tool.specs.Morse.{MorseGraph, IsMorseGraphOf, morse_lines, MorseIsDue}
 use Rattle.conley_tool.specs.Analyze.{in_full, AnalysisIsDue, AreAlike}
 use Rattle.conley_tool.specs.Check.{certificate_limit, VerdictIsDue, AfterCertificate, CheckIsDue}
 use Rattle.conley_tool.specs.Headline.{IsDueOn, IsDue, Analyzes}
 use Rattle.conley_tool.specs.declared.words.Verb.{Verb}
-use Rattle.conley_tool.specs.declared.words.Verb.TheVariants.{Classes, Morse, Analyze, Check}
+use Rattle.conley_tool.specs.declared.words.Verb.TheVariants.{Classes, Field, Morse, Analyze, Check}
 use Rattle.conley_tool.specs.declared.outcome.Fault.TheVariants as fault
 use Rattle.conley_tool.specs.declared.outcome.Outcome.TheVariants.{Refused, Rejected}
 
@@ -99,6 +101,9 @@ graph_lines_once p laws g h is_g is_h =
     let lines = λ (ss ns : List (List ℕ)) (os : List (ℕ × ℕ)). morse_lines p.complex.labels (record { sets = ss; numbers = ns; order = os }) in
     ap (λ ss. lines ss g.numbers g.order) sets ∙ ap (λ ns. lines h.sets ns g.order) numbers ∙ ap (λ os. lines h.sets h.numbers os) order
 
+field_once_due : (p : Problem) → IsOnce (FieldIsDue p)
+field_once_due p a b r s = r.2 ∙ ap (λ lines. prints (text_of lines)) (field_lines_once p r.0 s.0 r.1 s.1) ∙ sym s.2
+
 morse_once_due : (p : Problem) → IsField (residues p.order) → IsOnce (MorseIsDue p)
 morse_once_due p laws a b (inl r) (inl s) =
     let e = ap length (finest_once p.complex p.part_of r.1.1.0 s.1.1.0 r.1.1.1 s.1.1.1) in
@@ -148,12 +153,14 @@ analysis_alike p a b (inr r) (inr s) = inr (p, r, s)
 
 due_on_once : (verb : Verb) (file_of : List ℕ → Option (List ℕ)) (arguments : List (List ℕ)) (bytes : List ℕ) (p : Problem) → ¬ (verb ≡ Analyze) → Reads bytes p → IsOnce (IsDueOn verb (Some file_of) arguments p)
 due_on_once Classes file_of arguments bytes p other reads a b r s = classes_once_due p a b r s
+due_on_once Field file_of arguments bytes p other reads a b r s = field_once_due p a b r s
 due_on_once Morse file_of arguments bytes p other reads a b r s = morse_once_due p (read_prime bytes p reads) a b r s
 due_on_once Analyze file_of arguments bytes p other reads a b r s = absurd (other refl)
 due_on_once Check file_of arguments bytes p other reads a b r s = let sound = read_sound bytes p reads in check_once_due file_of _ p sound.laws a b r s
 
 due_on_alike : (verb : Verb) (file_of : List ℕ → Option (List ℕ)) (arguments : List (List ℕ)) (bytes : List ℕ) (p : Problem) → Reads bytes p → IsOnceBy AreAlike (IsDueOn verb (Some file_of) arguments p)
 due_on_alike Classes file_of arguments bytes p reads a b r s = inl (classes_once_due p a b r s)
+due_on_alike Field file_of arguments bytes p reads a b r s = inl (field_once_due p a b r s)
 due_on_alike Morse file_of arguments bytes p reads a b r s = inl (morse_once_due p (read_prime bytes p reads) a b r s)
 due_on_alike Analyze file_of arguments bytes p reads a b r s = analysis_alike p a b r s
 due_on_alike Check file_of arguments bytes p reads a b r s = let sound = read_sound bytes p reads in inl (check_once_due file_of _ p sound.laws a b r s)

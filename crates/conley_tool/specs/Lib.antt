@@ -3,6 +3,7 @@ pub mod Words
 pub mod CommandMeaning
 pub mod Fetches
 pub mod Classes
+pub mod Field
 pub mod Morse
 pub mod Analyze
 pub mod Check

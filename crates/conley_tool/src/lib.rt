@@ -9,6 +9,7 @@ mod answer;
 mod check;
 mod classes;
 mod fetch;
+mod field;
 mod laws;
 mod morse;
 mod outcome;

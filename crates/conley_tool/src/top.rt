@@ -19,6 +19,7 @@ use crate::answer::Answer;
 use crate::check::answer_check;
 use crate::classes::answer_classes;
 use crate::fetch::read_problem;
+use crate::field::answer_field;
 use crate::morse::answer_morse;
 use crate::report::report;
 use crate::words::{Command, Verb, parse_words};
@@ -43,6 +44,7 @@ fn answer_on<D: Depot>(
 {
     match command.verb {
         Verb::Classes => answer_classes(alloc, problem),
+        Verb::Field => answer_field(alloc, problem),
         Verb::Morse => answer_morse(alloc, problem),
         Verb::Analyze => answer_analyze(alloc, problem),
         Verb::Check => answer_check(alloc, problem, command.arguments[1].as_str(), depot),
@@ -89,6 +91,7 @@ fn outcome_of<D: Depot, O: Sink>(
 }
 
 /// Runs the command that the words name: `classes FILE`, which prints the recurrence classes of the problem in FILE,
+/// `field FILE`, which prints its parts, each as regular or critical,
 /// `morse FILE`, which prints its Morse sets with their Conley indices, and the order of the sets,
 /// `analyze FILE`, which prints an analysis of it as a certificate: the Morse sets with a connection matrix, its maps and homotopies,
 /// or `check FILE CERT`, which tells whether the certificate in CERT is an analysis of the problem.

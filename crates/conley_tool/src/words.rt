@@ -10,6 +10,8 @@ ghost use Rattle.conley_tool.specs.Words.{arguments_of, command_of};
 pub(crate) enum Verb {
     /// The recurrence classes of the problem in a file.
     Classes,
+    /// Its parts, each regular or critical.
+    Field,
     /// Its Morse sets with their indices and their order.
     Morse,
     /// An analysis of it, as a certificate.
@@ -20,7 +22,7 @@ pub(crate) enum Verb {
 
 /// The forms of all words, in the order of the verbs.
 pub(crate) const USAGE: &str =
-    "usage: conley classes FILE | morse FILE | analyze FILE | check FILE CERT\n";
+    "usage: conley classes FILE | field FILE | morse FILE | analyze FILE | check FILE CERT\n";
 
 /// A verb and its arguments.
 #[derive(Clone, Copy)]
@@ -35,6 +37,7 @@ fn verb_of(word: &str) -> Option<Verb>
 {
     match word {
         "classes" => Some(Verb::Classes),
+        "field" => Some(Verb::Field),
         "morse" => Some(Verb::Morse),
         "analyze" => Some(Verb::Analyze),
         "check" => Some(Verb::Check),
@@ -48,7 +51,7 @@ fn argument_count(verb: Verb) -> usize
     ensures some { 0 < result }
 {
     match verb {
-        Verb::Classes | Verb::Morse | Verb::Analyze => 1,
+        Verb::Classes | Verb::Field | Verb::Morse | Verb::Analyze => 1,
         Verb::Check => 2,
     }
 }
