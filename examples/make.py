@@ -1,5 +1,5 @@
 #!/usr/bin/env python3
-"""Makes the problem files of the sampled flows.
+"""Makes the problem files of the sampled flows, and of a grid whose pairs are listed by rule.
 
 usage: make.py FOLDER
 
@@ -49,6 +49,21 @@ FLOWS = [
 
 # How many samples are taken along an edge.
 SAMPLES = 5
+
+# Named sets of a flow: the cells between two coordinates along each axis, in doubled coordinates.
+SETS = {
+    "double-well": [
+        ("left", (0, 10), (0, 22)),
+        ("middle", (9, 13), (0, 22)),
+        ("bar", (4, 18), (10, 12)),
+        ("arm", (11, 18), (10, 12)),
+    ],
+    "pairs": [
+        ("corner", (24, 24), (24, 24)),
+        ("start", (0, 0), (0, 0)),
+        ("square", (5, 5), (23, 23)),
+    ],
+}
 
 
 # ---- the grid
@@ -124,6 +139,17 @@ def lists_of_samples(flow, n, low, high):
     return found
 
 
+# ---- a grid without samples
+
+def pairs_by_rule(n):
+    """Each vertex with the edge to its right, the vertices at the right border with the edge above; the first squares with the edge at their left."""
+    side = range(n)
+    found = [[(2 * i, 2 * j), (2 * i + 1, 2 * j)] for i in side for j in range(n + 1)]
+    found += [[(2 * n, 2 * j), (2 * n, 2 * j + 1)] for j in side]
+    squares = [(i, j) for i in side for j in side][:32]
+    return found + [[(2 * i, 2 * j + 1), (2 * i + 1, 2 * j + 1)] for i, j in squares]
+
+
 # ---- the finest partition into locally closed parts that keeps each list together
 
 class Parts:
@@ -175,8 +201,15 @@ def hull(cells, lists):
 
 # ---- the files
 
-def problem(complex, kind, lists):
-    return {"version": 1, "scalars": 2, "complex": complex, "field": {"kind": kind, "parts": lists}}
+def problem(complex, kind, lists, sets):
+    value = {"version": 1, "scalars": 2, "complex": complex, "field": {"kind": kind, "parts": lists}}
+    return {**value, "sets": sets} if sets else value
+
+
+def named(cells, name):
+    """The named sets of an example, with their labels."""
+    for set_name, (left, right), (low, high) in SETS.get(name, []):
+        yield [set_name, [label((a, b)) for a, b in cells if left <= a <= right and low <= b <= high]]
 
 
 def by_squares(n):
@@ -192,24 +225,25 @@ def by_cells(cells, number):
     }
 
 
-def problems(flow, n, low, high):
-    """The name and the problem of each file."""
+def problems(name, n, together):
+    """The name and the problem of each file of an example: a grid of n by n squares, and cells that go together."""
     cells = cells_of_grid(n)
     number = {cell: k for k, cell in enumerate(cells)}
-    together = lists_of_samples(flow, n, low, high)
+    sets = list(named(cells, name))
     parts = sorted(sorted(number[cell] for cell in part) for part in hull(cells, together) if len(part) > 1)
     labels = [[label(cells[k]) for k in part] for part in parts]
-    yield "hull.json", problem(by_squares(n), "hull", [[label(cell) for cell in listed] for listed in together])
-    yield "cubical.json", problem(by_squares(n), "whole", labels)
-    yield "problem.json", problem(by_cells(cells, number), "whole", labels)
+    yield "hull.json", problem(by_squares(n), "hull", [[label(cell) for cell in listed] for listed in together], sets)
+    yield "cubical.json", problem(by_squares(n), "whole", labels, sets)
+    yield "problem.json", problem(by_cells(cells, number), "whole", labels, sets)
 
 
 def main(words):
     if len(words) != 1:
         sys.exit("usage: make.py FOLDER")
-    for name, flow, n, low, high in FLOWS:
+    examples = [(name, n, lists_of_samples(flow, n, low, high)) for name, flow, n, low, high in FLOWS]
+    for name, n, together in examples + [("pairs", 12, pairs_by_rule(12))]:
         os.makedirs(os.path.join(words[0], name), exist_ok=True)
-        for file_name, value in problems(flow, n, low, high):
+        for file_name, value in problems(name, n, together):
             with open(os.path.join(words[0], name, file_name), "w", encoding="utf-8") as file:
                 json.dump(value, file, separators=(",", ":"))
                 file.write("\n")

@@ -24,3 +24,5 @@ mod refusals;
 mod running;
 #[cfg(test)]
 mod runs;
+#[cfg(test)]
+mod sets_runs;

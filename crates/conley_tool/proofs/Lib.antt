@@ -1,4 +1,5 @@
 pub mod RangeLemmas
 pub mod TopLemmas
 pub mod PartLineLemmas
+pub mod SetLineLemmas
 pub mod OneDueLemmas

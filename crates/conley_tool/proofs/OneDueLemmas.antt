@@ -28,11 +28,13 @@ use Rattle.conley_tool.specs.Classes.{ClassesAreDue}
 use Rattle.conley_tool.specs.Field.{FieldIsDue}
 use Rattle.conley_tool.proofs.PartLineLemmas.{field_lines_once}
 use Rattle.conley_tool.specs.Morse.{MorseGraph, IsMorseGraphOf, morse_lines, MorseIsDue}
+use Rattle.conley_tool.specs.Sets.{SetsAreDue}
+use Rattle.conley_tool.proofs.SetLineLemmas.{set_lines_once}
 use Rattle.conley_tool.specs.Analyze.{in_full, AnalysisIsDue, AreAlike}
 use Rattle.conley_tool.specs.Check.{certificate_limit, VerdictIsDue, AfterCertificate, CheckIsDue}
 use Rattle.conley_tool.specs.Headline.{IsDueOn, IsDue, Analyzes}
 use Rattle.conley_tool.specs.declared.words.Verb.{Verb}
-use Rattle.conley_tool.specs.declared.words.Verb.TheVariants.{Classes, Field, Morse, Analyze, Check}
+use Rattle.conley_tool.specs.declared.words.Verb.TheVariants.{Classes, Field, Morse, Sets, Analyze, Check}
 use Rattle.conley_tool.specs.declared.outcome.Fault.TheVariants as fault
 use Rattle.conley_tool.specs.declared.outcome.Outcome.TheVariants.{Refused, Rejected}
 
@@ -112,6 +114,9 @@ morse_once_due p laws a b (inl r) (inr s) = let e = ap length (finest_once p.com
 morse_once_due p laws a b (inr r) (inl s) = let e = ap length (finest_once p.complex p.part_of s.1.1.0 r.0.sets s.1.1.1 r.1.sets) in absurd (omega (arith, e, s.1.0, s.1.1.2, r.2))
 morse_once_due p laws a b (inr r) (inr s) = r.3 ∙ ap (λ lines. prints (text_of lines)) (graph_lines_once p laws r.0 s.0 r.1 s.1) ∙ sym s.3
 
+sets_once_due : (p : Problem) → IsField (residues p.order) → IsOnce (SetsAreDue p)
+sets_once_due p laws a b r s = r.2 ∙ ap (λ lines. prints (text_of lines)) (set_lines_once p laws p.sets r.0 s.0 r.1 s.1) ∙ sym s.2
+
 verdict_once : (P : certificate.Problem) (C : Certificate) → IsOnce (VerdictIsDue P C)
 verdict_once P C a b (inl r) (inl s) = r.1 ∙ sym s.1
 verdict_once P C a b (inl r) (inr s) = absurd (s.0 r.0)
@@ -155,6 +160,7 @@ due_on_once : (verb : Verb) (file_of : List ℕ → Option (List ℕ)) (argument
 due_on_once Classes file_of arguments bytes p other reads a b r s = classes_once_due p a b r s
 due_on_once Field file_of arguments bytes p other reads a b r s = field_once_due p a b r s
 due_on_once Morse file_of arguments bytes p other reads a b r s = morse_once_due p (read_prime bytes p reads) a b r s
+due_on_once Sets file_of arguments bytes p other reads a b r s = sets_once_due p (read_prime bytes p reads) a b r s
 due_on_once Analyze file_of arguments bytes p other reads a b r s = absurd (other refl)
 due_on_once Check file_of arguments bytes p other reads a b r s = let sound = read_sound bytes p reads in check_once_due file_of _ p sound.laws a b r s
 
@@ -162,6 +168,7 @@ due_on_alike : (verb : Verb) (file_of : List ℕ → Option (List ℕ)) (argumen
 due_on_alike Classes file_of arguments bytes p reads a b r s = inl (classes_once_due p a b r s)
 due_on_alike Field file_of arguments bytes p reads a b r s = inl (field_once_due p a b r s)
 due_on_alike Morse file_of arguments bytes p reads a b r s = inl (morse_once_due p (read_prime bytes p reads) a b r s)
+due_on_alike Sets file_of arguments bytes p reads a b r s = inl (sets_once_due p (read_prime bytes p reads) a b r s)
 due_on_alike Analyze file_of arguments bytes p reads a b r s = analysis_alike p a b r s
 due_on_alike Check file_of arguments bytes p reads a b r s = let sound = read_sound bytes p reads in inl (check_once_due file_of _ p sound.laws a b r s)
 

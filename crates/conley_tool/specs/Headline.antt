@@ -18,10 +18,11 @@ use Rattle.conley_tool.specs.Fetches.{OnProblem}
 use Rattle.conley_tool.specs.Classes.{ClassesAreDue}
 use Rattle.conley_tool.specs.Field.{FieldIsDue}
 use Rattle.conley_tool.specs.Morse.{MorseIsDue}
+use Rattle.conley_tool.specs.Sets.{SetsAreDue}
 use Rattle.conley_tool.specs.Analyze.{AnalysisIsDue}
 use Rattle.conley_tool.specs.Check.{CheckIsDue}
 use Rattle.conley_tool.specs.declared.words.Verb.{Verb}
-use Rattle.conley_tool.specs.declared.words.Verb.TheVariants.{Classes, Field, Morse, Analyze, Check}
+use Rattle.conley_tool.specs.declared.words.Verb.TheVariants.{Classes, Field, Morse, Sets, Analyze, Check}
 use Rattle.conley_tool.specs.declared.outcome.Outcome.TheVariants.{Usage}
 
 -- with the files and the arguments, for commands that need more than the problem
@@ -29,6 +30,7 @@ abbrev pub IsDueOn : Verb → Files → List (List ℕ) → Problem → Due → 
 IsDueOn Classes files arguments problem what = ClassesAreDue problem what
 IsDueOn Field files arguments problem what = FieldIsDue problem what
 IsDueOn Morse files arguments problem what = MorseIsDue problem what
+IsDueOn Sets files arguments problem what = SetsAreDue problem what
 IsDueOn Analyze files arguments problem what = AnalysisIsDue problem what
 IsDueOn Check files arguments problem what = CheckIsDue files (slice_index_or arguments 1 []) problem what
 

@@ -5,6 +5,7 @@ pub mod Fetches
 pub mod Classes
 pub mod Field
 pub mod Morse
+pub mod Sets
 pub mod Analyze
 pub mod Check
 pub mod Headline

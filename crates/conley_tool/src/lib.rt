@@ -14,6 +14,7 @@ mod laws;
 mod morse;
 mod outcome;
 mod report;
+mod sets;
 mod top;
 mod words;
 

@@ -22,6 +22,7 @@ use crate::fetch::read_problem;
 use crate::field::answer_field;
 use crate::morse::answer_morse;
 use crate::report::report;
+use crate::sets::answer_sets;
 use crate::words::{Command, Verb, parse_words};
 use conley_input::Problem;
 use conley_outside::{Depot, Sink};
@@ -46,6 +47,7 @@ fn answer_on<D: Depot>(
         Verb::Classes => answer_classes(alloc, problem),
         Verb::Field => answer_field(alloc, problem),
         Verb::Morse => answer_morse(alloc, problem),
+        Verb::Sets => answer_sets(alloc, problem),
         Verb::Analyze => answer_analyze(alloc, problem),
         Verb::Check => answer_check(alloc, problem, command.arguments[1].as_str(), depot),
     }
@@ -93,6 +95,7 @@ fn outcome_of<D: Depot, O: Sink>(
 /// Runs the command that the words name: `classes FILE`, which prints the recurrence classes of the problem in FILE,
 /// `field FILE`, which prints its parts, each as regular or critical,
 /// `morse FILE`, which prints its Morse sets with their Conley indices, and the order of the sets,
+/// `sets FILE`, which tells of each named set what stays in it, whether it is isolated, and then its Conley index,
 /// `analyze FILE`, which prints an analysis of it as a certificate: the Morse sets with a connection matrix, its maps and homotopies,
 /// or `check FILE CERT`, which tells whether the certificate in CERT is an analysis of the problem.
 /// Its text goes to `out`, and for any outcome but `Done` and `Accepted` one line to `err`; a fault of `err` changes no outcome.

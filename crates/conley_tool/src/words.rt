@@ -14,6 +14,8 @@ pub(crate) enum Verb {
     Field,
     /// Its Morse sets with their indices and their order.
     Morse,
+    /// What its named sets hold.
+    Sets,
     /// An analysis of it, as a certificate.
     Analyze,
     /// Whether a certificate is an analysis of it.
@@ -22,7 +24,7 @@ pub(crate) enum Verb {
 
 /// The forms of all words, in the order of the verbs.
 pub(crate) const USAGE: &str =
-    "usage: conley classes FILE | field FILE | morse FILE | analyze FILE | check FILE CERT\n";
+    "usage: conley classes FILE | field FILE | morse FILE | sets FILE | analyze FILE | check FILE CERT\n";
 
 /// A verb and its arguments.
 #[derive(Clone, Copy)]
@@ -39,6 +41,7 @@ fn verb_of(word: &str) -> Option<Verb>
         "classes" => Some(Verb::Classes),
         "field" => Some(Verb::Field),
         "morse" => Some(Verb::Morse),
+        "sets" => Some(Verb::Sets),
         "analyze" => Some(Verb::Analyze),
         "check" => Some(Verb::Check),
         _ => None,
@@ -51,7 +54,7 @@ fn argument_count(verb: Verb) -> usize
     ensures some { 0 < result }
 {
     match verb {
-        Verb::Classes | Verb::Field | Verb::Morse | Verb::Analyze => 1,
+        Verb::Classes | Verb::Field | Verb::Morse | Verb::Sets | Verb::Analyze => 1,
         Verb::Check => 2,
     }
 }
