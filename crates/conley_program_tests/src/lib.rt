@@ -26,3 +26,5 @@ mod running;
 mod runs;
 #[cfg(test)]
 mod sets_runs;
+#[cfg(test)]
+mod trial_runs;

@@ -52,7 +52,7 @@ fn words_without_a_form_are_usage(rt: HostRuntime) -> Result<(), Fail> {
                 && said.is(
                     2,
                     "",
-                    "usage: conley classes FILE | field FILE | morse FILE | sets FILE | analyze FILE | check FILE CERT\n"
+                    "usage: conley classes FILE | field FILE | morse FILE | sets FILE | analyze FILE | check FILE CERT | trial K\n"
                 )
         );
     }

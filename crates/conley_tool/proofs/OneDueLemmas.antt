@@ -1,9 +1,10 @@
 -- At most one thing is due where files are told.
-use Rattle.std.proofs.Common.{◌≡◌, inl, inr, ◌<◌, ℕ, List, Option, Some, None, map, length, sym, ◌∙◌, ap, subst, arith, refl, ◌≤◌}
+use Rattle.std.proofs.Common.{◌≡◌, ◌⊎◌, inl, inr, Bool, true, false, ◌<◌, ℕ, List, Option, Some, None, map, length, sym, ◌∙◌, ap, subst, arith, refl, ◌≤◌}
 use Rattle.std.specs.Prelude.{IsSomeAnd}
 use Rattle.conley_outside.specs.Depot.{Lacks}
 use Rattle.conley_field.specs.Arithmetic.{IsField}
 use Rattle.conley_field.specs.Prime.{residues}
+use Rattle.conley_field.specs.ResidueLaws.{residues-IsField}
 use Rattle.conley_lefschetz.specs.Complex.{IsLayout}
 use Rattle.conley_lefschetz.specs.Conley.{AreConleyNumbers}
 use Rattle.conley_lefschetz.proofs.ConleyLemmas.{numbers_are_one}
@@ -14,27 +15,30 @@ use Rattle.conley_transitions.proofs.ClassLemmas.{classes_once}
 use Rattle.conley_graph.specs.Covers.{AreCovers}
 use Rattle.conley_graph.specs.Decomposition.{field_of, HasTooManySets}
 use Rattle.conley_graph.proofs.OnceLemmas.{finest_once, covers_once, numbers_once}
-use Rattle.conley_input.specs.Problem.{Problem}
-use Rattle.conley_input.specs.Problem.{Reads}
+use Rattle.conley_input.specs.Problem.{Problem, Reads, IsSound}
 use Rattle.conley_input.proofs.OnceLemmas.{refused_once, not_refused_and_read, read_once, read_prime, read_sound}
 use Rattle.conley_certificate_file.specs.Certificate.{Certificate}
 use Rattle.conley_certificate_file.proofs.OnceLemmas as certificates
 use Rattle.conley_certificate.specs.Problem as certificate
-use Rattle.conley_analysis.specs.Text.{IsAnalysisText}
+use Rattle.conley_certificate.specs.Analysis.{IsAnalysis}
+use Rattle.conley_trial.specs.Trial.{IsTrialProblem}
+use Rattle.conley_trial.proofs.OnceLemmas.{problem_once}
 use Rattle.conley_tool.specs.Due.{Due, ends, prints}
-use Rattle.conley_tool.specs.Words.{Command}
-use Rattle.conley_tool.specs.Fetches.{Holds, IsLonger, AfterFetch, AfterProblem}
+use Rattle.conley_tool.specs.Words.{Command, reads_file, number_of}
+use Rattle.conley_tool.specs.Fetches.{Holds, IsLonger, AfterFetch, AfterProblem, file_limit}
 use Rattle.conley_tool.specs.Classes.{ClassesAreDue}
 use Rattle.conley_tool.specs.Field.{FieldIsDue}
 use Rattle.conley_tool.proofs.PartLineLemmas.{field_lines_once}
-use Rattle.conley_tool.specs.Morse.{MorseGraph, IsMorseGraphOf, morse_lines, MorseIsDue}
+use Rattle.conley_tool.specs.Morse.{MorseGraph, IsMorseGraphOf, morse_lines, RefusesSets, MorseIsDue}
 use Rattle.conley_tool.specs.Sets.{SetsAreDue}
 use Rattle.conley_tool.proofs.SetLineLemmas.{set_lines_once}
-use Rattle.conley_tool.specs.Analyze.{in_full, AnalysisIsDue, AreAlike}
+use Rattle.conley_tool.specs.Analyze.{in_full, AnalysisIsDue}
 use Rattle.conley_tool.specs.Check.{certificate_limit, VerdictIsDue, AfterCertificate, CheckIsDue}
-use Rattle.conley_tool.specs.Headline.{IsDueOn, IsDue, Analyzes}
+use Rattle.conley_tool.specs.Trial.{IsMade, OnMade, SummaryIsDue}
+use Rattle.conley_tool.specs.Alike.{AreAlike}
+use Rattle.conley_tool.specs.Headline.{IsDueOn, OnArgument, IsDue, Analyzes}
 use Rattle.conley_tool.specs.declared.words.Verb.{Verb}
-use Rattle.conley_tool.specs.declared.words.Verb.TheVariants.{Classes, Field, Morse, Sets, Analyze, Check}
+use Rattle.conley_tool.specs.declared.words.Verb.TheVariants.{Classes, Field, Morse, Sets, Analyze, Check, Trial}
 use Rattle.conley_tool.specs.declared.outcome.Fault.TheVariants as fault
 use Rattle.conley_tool.specs.declared.outcome.Outcome.TheVariants.{Refused, Rejected}
 
@@ -84,6 +88,30 @@ module _ (Alike : Due → Due → Type 0) (same : (a b : Due) → a ≡ b → Al
       let is = subst (λ (p : Problem). Next p b) (sym (read_once bytes r.0 s.0 r.1 s.1)) s.2 in
       once r.0 r.1 a b r.2 is
 
+-- ---- the problem that is made for a number
+
+-- a word says at most one number
+made_once : (word : List ℕ) (p q : Problem) → IsMade word p → IsMade word q → p ≡ q
+made_once word p q r s =
+    let e : Some r.0 ≡ Some s.0 = sym r.1 ∙ s.1 in
+    let same : r.0 ≡ s.0 = cc in
+    problem_once s.0 p q r.3 s.3 (subst (λ (k : ℕ). IsTrialProblem k p) same r.2) s.2
+
+made_prime : (word : List ℕ) (p : Problem) → IsMade word p → IsField (residues p.order)
+made_prime word p made = let is = made.2 in subst (λ (order : ℕ). IsField (residues order)) (sym is.scalars) (residues-IsField 2 refl)
+
+module _ (Alike : Due → Due → Type 0) (same : (a b : Due) → a ≡ b → Alike a b) where
+  on_made_once : (word : List ℕ) (Next : Problem → Due → Type 0) → ((p : Problem) → IsMade word p → IsOnceBy Alike (Next p)) → IsOnceBy Alike (OnMade word Next)
+  on_made_once word Next once a b r s = once r.0 r.1 a b r.2 (subst (λ (p : Problem). Next p b) (sym (made_once word r.0 s.0 r.1 s.1)) s.2)
+
+  -- where things that are due of one problem are alike, so are those of the problem that an argument names
+  on_argument_once : (file_of : List ℕ → Option (List ℕ)) (word : List ℕ) (Next : Problem → Due → Type 0) → ((p : Problem) → IsField (residues p.order) → IsSound p → IsOnceBy Alike (Next p)) →
+      (reads : Bool) → IsOnceBy Alike (OnArgument reads (Some file_of) word Next)
+  on_argument_once file_of word Next once true a b r s =
+      after_fetch_once Alike same file_of word file_limit (λ bytes. AfterProblem bytes Next)
+      (λ bytes. after_problem_once Alike same bytes Next (λ p reads. once p (read_prime bytes p reads) (read_sound bytes p reads))) a b r s
+  on_argument_once file_of word Next once false a b r s = on_made_once word Next (λ p made. once p (made_prime word p made) made.3) a b r s
+
 -- ---- commands
 
 classes_once_due : (p : Problem) → IsOnce (ClassesAreDue p)
@@ -106,10 +134,14 @@ graph_lines_once p laws g h is_g is_h =
 field_once_due : (p : Problem) → IsOnce (FieldIsDue p)
 field_once_due p a b r s = r.2 ∙ ap (λ lines. prints (text_of lines)) (field_lines_once p r.0 s.0 r.1 s.1) ∙ sym s.2
 
-morse_once_due : (p : Problem) → IsField (residues p.order) → IsOnce (MorseIsDue p)
-morse_once_due p laws a b (inl r) (inl s) =
+-- more sets than are printed
+many_once : (p : Problem) (a b : Due) → RefusesSets p a → RefusesSets p b → a ≡ b
+many_once p a b r s =
     let e = ap length (finest_once p.complex p.part_of r.1.1.0 s.1.1.0 r.1.1.1 s.1.1.1) in
     r.2 ∙ ap (λ n. ends (Refused (fault.Morse n))) (sym r.1.1.2 ∙ e ∙ s.1.1.2) ∙ sym s.2
+
+morse_once_due : (p : Problem) → IsField (residues p.order) → IsOnce (MorseIsDue p)
+morse_once_due p laws a b (inl r) (inl s) = many_once p a b r s
 morse_once_due p laws a b (inl r) (inr s) = let e = ap length (finest_once p.complex p.part_of r.1.1.0 s.0.sets r.1.1.1 s.1.sets) in absurd (omega (arith, e, r.1.0, r.1.1.2, s.2))
 morse_once_due p laws a b (inr r) (inl s) = let e = ap length (finest_once p.complex p.part_of s.1.1.0 r.0.sets s.1.1.1 r.1.sets) in absurd (omega (arith, e, s.1.0, s.1.1.2, r.2))
 morse_once_due p laws a b (inr r) (inr s) = r.3 ∙ ap (λ lines. prints (text_of lines)) (graph_lines_once p laws r.0 s.0 r.1 s.1) ∙ sym s.3
@@ -139,49 +171,54 @@ check_once_due file_of name p laws =
         verdict_once (in_full p) r.0 a b r.2 (subst (λ (C : Certificate). VerdictIsDue (in_full p) C b) (sym same) s.2)
 
 -- an analysis has the sets of the finest decomposition
-many_and_few : (p : Problem) (count : ℕ) → HasTooManySets (residues p.order) p.complex p.part_of count → (text : List ℕ) (analysis : IsAnalysisText (in_full p) text) → length analysis.certificate.morse ≤ 2000 → ⊥
-many_and_few p count many text analysis few =
-    let listed = analysis.analysis.graph in
+many_and_few : (p : Problem) (count : ℕ) → HasTooManySets (residues p.order) p.complex p.part_of count → (C : Certificate) → IsAnalysis (in_full p) C → length C.morse ≤ 2000 → ⊥
+many_and_few p count many C analysis few =
+    let listed = analysis.graph in
     let e = ap length (finest_once p.complex p.part_of many.1.0 listed.sets many.1.1 listed.graph.sets) in
     omega (arith, e, many.0, many.1.2, listed.sets_count, few)
 
 -- more sets than are printed, or the text of an analysis
 analysis_alike : (p : Problem) → IsOnceBy AreAlike (AnalysisIsDue p)
-analysis_alike p a b (inl r) (inl s) =
-    let e = ap length (finest_once p.complex p.part_of r.1.1.0 s.1.1.0 r.1.1.1 s.1.1.1) in
-    inl (r.2 ∙ ap (λ n. ends (Refused (fault.Morse n))) (sym r.1.1.2 ∙ e ∙ s.1.1.2) ∙ sym s.2)
-analysis_alike p a b (inl r) (inr s) = absurd (many_and_few p r.0 r.1 s.0 s.1 s.2)
-analysis_alike p a b (inr r) (inl s) = absurd (many_and_few p s.0 s.1 r.0 r.1 r.2)
-analysis_alike p a b (inr r) (inr s) = inr (p, r, s)
+analysis_alike p a b (inl r) (inl s) = inl (many_once p a b r s)
+analysis_alike p a b (inl r) (inr s) = let text = s.1 in absurd (many_and_few p r.0 r.1 text.certificate text.analysis s.2)
+analysis_alike p a b (inr r) (inl s) = let text = r.1 in absurd (many_and_few p s.0 s.1 text.certificate text.analysis r.2)
+analysis_alike p a b (inr r) (inr s) = inr (inl (p, r, s))
+
+-- more sets than are printed, or a summary
+summary_alike : (p : Problem) → IsOnceBy AreAlike (SummaryIsDue p)
+summary_alike p a b (inl r) (inl s) = inl (many_once p a b r s)
+summary_alike p a b (inl r) (inr s) = absurd (many_and_few p r.0 r.1 s.0 s.1 s.2)
+summary_alike p a b (inr r) (inl s) = absurd (many_and_few p s.0 s.1 r.0 r.1 r.2)
+summary_alike p a b (inr r) (inr s) = inr (inr (p, r, s))
 
 -- ---- all commands
 
-due_on_once : (verb : Verb) (file_of : List ℕ → Option (List ℕ)) (arguments : List (List ℕ)) (bytes : List ℕ) (p : Problem) → ¬ (verb ≡ Analyze) → Reads bytes p → IsOnce (IsDueOn verb (Some file_of) arguments p)
-due_on_once Classes file_of arguments bytes p other reads a b r s = classes_once_due p a b r s
-due_on_once Field file_of arguments bytes p other reads a b r s = field_once_due p a b r s
-due_on_once Morse file_of arguments bytes p other reads a b r s = morse_once_due p (read_prime bytes p reads) a b r s
-due_on_once Sets file_of arguments bytes p other reads a b r s = sets_once_due p (read_prime bytes p reads) a b r s
-due_on_once Analyze file_of arguments bytes p other reads a b r s = absurd (other refl)
-due_on_once Check file_of arguments bytes p other reads a b r s = let sound = read_sound bytes p reads in check_once_due file_of _ p sound.laws a b r s
+due_on_once : (verb : Verb) (file_of : List ℕ → Option (List ℕ)) (arguments : List (List ℕ)) (p : Problem) → ¬ ((verb ≡ Analyze) ⊎ (verb ≡ Trial)) → IsField (residues p.order) → IsSound p →
+    IsOnce (IsDueOn verb (Some file_of) arguments p)
+due_on_once Classes file_of arguments p other laws sound a b r s = classes_once_due p a b r s
+due_on_once Field file_of arguments p other laws sound a b r s = field_once_due p a b r s
+due_on_once Morse file_of arguments p other laws sound a b r s = morse_once_due p laws a b r s
+due_on_once Sets file_of arguments p other laws sound a b r s = sets_once_due p laws a b r s
+due_on_once Analyze file_of arguments p other laws sound a b r s = absurd (other (inl refl))
+due_on_once Check file_of arguments p other laws sound a b r s = check_once_due file_of _ p sound.laws a b r s
+due_on_once Trial file_of arguments p other laws sound a b r s = absurd (other (inr refl))
 
-due_on_alike : (verb : Verb) (file_of : List ℕ → Option (List ℕ)) (arguments : List (List ℕ)) (bytes : List ℕ) (p : Problem) → Reads bytes p → IsOnceBy AreAlike (IsDueOn verb (Some file_of) arguments p)
-due_on_alike Classes file_of arguments bytes p reads a b r s = inl (classes_once_due p a b r s)
-due_on_alike Field file_of arguments bytes p reads a b r s = inl (field_once_due p a b r s)
-due_on_alike Morse file_of arguments bytes p reads a b r s = inl (morse_once_due p (read_prime bytes p reads) a b r s)
-due_on_alike Sets file_of arguments bytes p reads a b r s = inl (sets_once_due p (read_prime bytes p reads) a b r s)
-due_on_alike Analyze file_of arguments bytes p reads a b r s = analysis_alike p a b r s
-due_on_alike Check file_of arguments bytes p reads a b r s = let sound = read_sound bytes p reads in inl (check_once_due file_of _ p sound.laws a b r s)
+due_on_alike : (verb : Verb) (file_of : List ℕ → Option (List ℕ)) (arguments : List (List ℕ)) (p : Problem) → IsField (residues p.order) → IsSound p → IsOnceBy AreAlike (IsDueOn verb (Some file_of) arguments p)
+due_on_alike Classes file_of arguments p laws sound a b r s = inl (classes_once_due p a b r s)
+due_on_alike Field file_of arguments p laws sound a b r s = inl (field_once_due p a b r s)
+due_on_alike Morse file_of arguments p laws sound a b r s = inl (morse_once_due p laws a b r s)
+due_on_alike Sets file_of arguments p laws sound a b r s = inl (sets_once_due p laws a b r s)
+due_on_alike Analyze file_of arguments p laws sound a b r s = analysis_alike p a b r s
+due_on_alike Check file_of arguments p laws sound a b r s = inl (check_once_due file_of _ p sound.laws a b r s)
+due_on_alike Trial file_of arguments p laws sound a b r s = summary_alike p a b r s
 
 pub due_once : (file_of : List ℕ → Option (List ℕ)) (command : Option Command) → ¬ Analyzes command → (a b : Due) → IsDue (Some file_of) command a → IsDue (Some file_of) command b → a ≡ b
 due_once file_of None other a b r s = r ∙ sym s
 due_once file_of (Some command) other a b r s =
-    let on = IsDueOn command.verb (Some file_of) command.arguments in
-    let same = λ (x y : Due). x ≡ y in
-    after_fetch_once same (λ x y e. e) file_of _ _ (λ bytes. AfterProblem bytes on) (λ bytes. after_problem_once same (λ x y e. e) bytes on (λ p. due_on_once command.verb file_of command.arguments bytes p other)) a b r s
+    on_argument_once (λ (x y : Due). x ≡ y) (λ x y e. e) file_of _ (IsDueOn command.verb (Some file_of) command.arguments) (λ p. due_on_once command.verb file_of command.arguments p other) (reads_file command.verb) a b r s
 
 pub due_alike : (file_of : List ℕ → Option (List ℕ)) (command : Option Command) (a b : Due) → IsDue (Some file_of) command a → IsDue (Some file_of) command b → AreAlike a b
 due_alike file_of None a b r s = inl (r ∙ sym s)
 due_alike file_of (Some command) a b r s =
-    let on = IsDueOn command.verb (Some file_of) command.arguments in
     let same : (x y : Due) → x ≡ y → AreAlike x y = λ x y e. inl e in
-    after_fetch_once AreAlike same file_of _ _ (λ bytes. AfterProblem bytes on) (λ bytes. after_problem_once AreAlike same bytes on (due_on_alike command.verb file_of command.arguments bytes)) a b r s
+    on_argument_once AreAlike same file_of _ (IsDueOn command.verb (Some file_of) command.arguments) (due_on_alike command.verb file_of command.arguments) (reads_file command.verb) a b r s

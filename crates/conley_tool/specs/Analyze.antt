@@ -2,7 +2,6 @@
 --     in_full problem              the problem with its scalars, as an analysis has it
 --     PrintsAnalysis problem what  the text of an analysis of the problem, and a line feed; it has at most 2,000 sets
 --     AnalysisIsDue problem what   that, or more than 2,000 Morse sets are refused
---     AreAlike a b                 two things that can be due for one file: equal, or texts of analyses of one problem
 -- The wording is this project's own.
 use Rattle.std.specs.Prelude.{◌≡◌, ◌⊎◌, ◌≤◌, ℕ, List, [], ◌∷◌, ◌++◌, length}
 use Rattle.conley_field.specs.Prime.{residues}
@@ -21,7 +20,3 @@ PrintsAnalysis problem what =
 
 abbrev pub AnalysisIsDue : Problem → Due → Type 0
 AnalysisIsDue problem what = RefusesSets problem what ⊎ PrintsAnalysis problem what
-
--- a problem can have several connection matrices, so several texts can be due
-abbrev pub AreAlike : Due → Due → Type 0
-AreAlike a b = (a ≡ b) ⊎ ((problem : Problem) × PrintsAnalysis problem a × PrintsAnalysis problem b)

@@ -3,9 +3,11 @@
 --     ProblemCause files file read outcome       the cause of an outcome that reading a problem gives
 --     EndCause Is read outcome                   the cause of an outcome that ends a run before its text, where `Is` says what is due
 --     StandsFor files file problem               the file may have bytes that stand for the problem
+--     IsNamed reads files word problem           the problem that an argument names: the file may stand for it, or it is made for a number
+--     NamedCause reads files word read outcome   the cause of an outcome that ends a run before it has this problem
 --     due_of answer                              an answer that a command gave, as what is due
 --     graph_of found                             the Morse graph of a decomposition that was found
-use Rattle.std.specs.Prelude.{◌⊎◌, ℕ, List}
+use Rattle.std.specs.Prelude.{◌≡◌, ◌⊎◌, ℕ, List, Bool, true, false}
 use Rattle.conley_outside.specs.Depot.{Files, Lacks}
 use Rattle.conley_walk.specs.Lists.{items_of}
 use Rattle.conley_morse.specs.declared.decomposition.Decomposition.{Decomposition}
@@ -13,6 +15,7 @@ use Rattle.conley_input.specs.Problem.{Problem, Reads, Refuses}
 use Rattle.conley_tool.specs.Due.{Due, ends, prints, accepts}
 use Rattle.conley_tool.specs.Fetches.{Holds, IsLonger, file_limit}
 use Rattle.conley_tool.specs.Morse.{MorseGraph}
+use Rattle.conley_tool.specs.Trial.{IsMade}
 use Rattle.conley_tool.specs.declared.answer.Answer.{Answer}
 use Rattle.conley_tool.specs.declared.answer.Answer.TheVariants.{Prints, Accepts}
 use Rattle.conley_tool.specs.declared.outcome.Fault.TheVariants.{File}
@@ -39,6 +42,14 @@ EndCause Is read _ = ⊥
 
 abbrev pub StandsFor : Files → List ℕ → Problem → Type 0
 StandsFor files file problem = (bytes : List ℕ) × Holds files file file_limit bytes × Reads bytes problem
+
+abbrev pub IsNamed : Bool → Files → List ℕ → Problem → Type 0
+IsNamed true files word problem = StandsFor files word problem
+IsNamed false files word problem = IsMade word problem
+
+abbrev pub NamedCause : Bool → Files → List ℕ → (read : Type 0) → Outcome → Type 0
+NamedCause true files word read outcome = ProblemCause files word read outcome
+NamedCause false files word read outcome = outcome ≡ NoMemory
 
 abbrev pub due_of : Answer → Due
 due_of (Prints text) = prints text.items

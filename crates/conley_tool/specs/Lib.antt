@@ -8,6 +8,8 @@ pub mod Morse
 pub mod Sets
 pub mod Analyze
 pub mod Check
+pub mod Trial
+pub mod Alike
 pub mod Headline
 pub mod Line
 pub mod Outcomes

@@ -16,6 +16,7 @@ mod outcome;
 mod report;
 mod sets;
 mod top;
+mod trial;
 mod words;
 
 pub use laws::one_is_due;

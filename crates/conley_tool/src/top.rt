@@ -1,6 +1,6 @@
 //! The top call.
 
-ghost use Rattle.std.specs.Prelude.{◌≡◌, ◌⊎◌, ◌<◌, ◌≤◌, map, None, Some, IfOk, IfErr, length, string_bytes};
+ghost use Rattle.std.specs.Prelude.{◌≡◌, ◌⊎◌, ◌<◌, ◌≤◌, map, true, false, None, Some, IfOk, IfErr, is_some, length, string_bytes};
 ghost use Rattle.conley_outside.specs.Faults.{Rose};
 ghost use Rattle.conley_outside.specs.Sink.{gains, GainsPrefix};
 ghost use Rattle.conley_input.specs.Problem.{IsSound};
@@ -10,8 +10,9 @@ ghost use Rattle.conley_tool.specs.CommandMeaning.{meaning_of};
 ghost use Rattle.conley_tool.specs.Line.{line_of};
 ghost use Rattle.conley_tool.specs.Headline.{IsDueOn, IsDueOf, IsDueFor};
 ghost use Rattle.conley_tool.specs.Outcomes.{HasCause, Gains, IsAnswer};
-ghost use Rattle.conley_tool.specs.Words.{arguments_of};
-ghost use Rattle.conley_tool.specs.Ends.{EndCause, due_of};
+ghost use Rattle.conley_tool.specs.Words as spec;
+ghost use Rattle.conley_tool.specs.Words.{number_of};
+ghost use Rattle.conley_tool.specs.Ends.{IsNamed, NamedCause, EndCause, due_of};
 
 use crate::Outcome;
 use crate::analyze::answer_analyze;
@@ -23,7 +24,8 @@ use crate::field::answer_field;
 use crate::morse::answer_morse;
 use crate::report::report;
 use crate::sets::answer_sets;
-use crate::words::{Command, Verb, parse_words};
+use crate::trial::{answer_trial, made_problem};
+use crate::words::{Command, Verb, parse_words, reads_file};
 use conley_input::Problem;
 use conley_outside::{Depot, Sink};
 use conley_texts::put_whole;
@@ -37,7 +39,7 @@ fn answer_on<D: Depot>(
     depot: &mut D,
 ) -> Result<Answer, Outcome>
     requires sound { IsSound (read.meaning_of problem.now) }
-    requires counted { length command.now.arguments.now ≡ length (arguments_of command.now.verb) }
+    requires counted { length command.now.arguments.now ≡ length (spec.arguments_of command.now.verb) }
     ensures ok { IfOk result (λ answer. IsDueOn command.now.verb (D.files depot.old) (meaning_of command.now).arguments (read.meaning_of problem.now) (due_of answer)) }
     ensures err { IfErr result (EndCause (IsDueOn command.now.verb (D.files depot.old) (meaning_of command.now).arguments (read.meaning_of problem.now)) (Rose (D.faults depot.old) (D.faults depot.new))) }
     ensures same_files { D.files depot.new ≡ D.files depot.old }
@@ -50,19 +52,43 @@ fn answer_on<D: Depot>(
         Verb::Sets => answer_sets(alloc, problem),
         Verb::Analyze => answer_analyze(alloc, problem),
         Verb::Check => answer_check(alloc, problem, command.arguments[1].as_str(), depot),
+        Verb::Trial => answer_trial(alloc, problem),
+    }
+}
+
+/// The problem that the first argument of a command names, in a file or by a number, or the outcome that ends the run.
+fn named_problem<D: Depot>(
+    alloc: Global,
+    verb: Verb,
+    word: &str,
+    depot: &mut D,
+) -> Result<Problem, Outcome>
+    requires { spec.reads_file verb ≡ false → is_some (number_of word.now) ≡ true }
+    ensures ok { IfOk result (λ problem. IsNamed (spec.reads_file verb) (D.files depot.old) word.now (read.meaning_of problem)) }
+    ensures sound { IfOk result (λ problem. IsSound (read.meaning_of problem)) }
+    ensures err { IfErr result (NamedCause (spec.reads_file verb) (D.files depot.old) word.now (Rose (D.faults depot.old) (D.faults depot.new))) }
+    ensures same_files { D.files depot.new ≡ D.files depot.old }
+    ensures later { D.faults depot.old ≤ D.faults depot.new }
+{
+    if reads_file(verb) {
+        read_problem(alloc, word, depot)
+    } else {
+        let problem = made_problem(alloc, word)?;
+        Ok(problem)
     }
 }
 
 /// What a command answers, or the outcome that ends the run.
 fn answer<D: Depot>(alloc: Global, command: &Command, depot: &mut D) -> Result<Answer, Outcome>
     requires some { 0 < length command.now.arguments.now }
-    requires counted { length command.now.arguments.now ≡ length (arguments_of command.now.verb) }
+    requires counted { length command.now.arguments.now ≡ length (spec.arguments_of command.now.verb) }
+    requires number { spec.are_arguments_of command.now.verb (meaning_of command.now).arguments ≡ true }
     ensures ok { IfOk result (λ answer. IsDueOf (D.files depot.old) (meaning_of command.now) (due_of answer)) }
     ensures err { IfErr result (EndCause (IsDueOf (D.files depot.old) (meaning_of command.now)) (Rose (D.faults depot.old) (D.faults depot.new))) }
     ensures same_files { D.files depot.new ≡ D.files depot.old }
 {
-    let file = command.arguments[0].as_str();
-    let problem = read_problem(alloc, file, depot)?;
+    let word = command.arguments[0].as_str();
+    let problem = named_problem(alloc, command.verb, word, depot)?;
     let answer = answer_on(alloc, command, &problem, depot)?;
     Ok(answer)
 }
@@ -97,7 +123,8 @@ fn outcome_of<D: Depot, O: Sink>(
 /// `morse FILE`, which prints its Morse sets with their Conley indices, and the order of the sets,
 /// `sets FILE`, which tells of each named set what stays in it, whether it is isolated, and then its Conley index,
 /// `analyze FILE`, which prints an analysis of it as a certificate: the Morse sets with a connection matrix, its maps and homotopies,
-/// or `check FILE CERT`, which tells whether the certificate in CERT is an analysis of the problem.
+/// `check FILE CERT`, which tells whether the certificate in CERT is an analysis of the problem,
+/// or `trial K`, which prints the summary of a problem that is made for K and of an analysis of it.
 /// Its text goes to `out`, and for any outcome but `Done` and `Accepted` one line to `err`; a fault of `err` changes no outcome.
 pub fn run<D: Depot, O: Sink, E: Sink>(
     alloc: Global,

@@ -6,5 +6,7 @@ mod analyzed;
 mod analyzed_tests;
 #[cfg(test)]
 mod surfaces;
+#[cfg(test)]
+mod trial_tests;
 
 pub use analyzed::checked_analysis;
