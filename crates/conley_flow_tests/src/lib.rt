@@ -8,6 +8,8 @@ mod homology_tests;
 #[cfg(test)]
 mod hull_tests;
 #[cfg(test)]
+mod isolation_tests;
+#[cfg(test)]
 mod morse_tests;
 #[cfg(test)]
 mod mvf_tests;
