@@ -1,6 +1,6 @@
 //! Whole runs of `sets FILE`.
 
-use crate::files::{EDGE, NO_CELLS};
+use crate::files::{EDGE, HULL, NO_CELLS};
 use crate::running::{Row, expect_printed};
 use std::test::Fail;
 
@@ -27,9 +27,13 @@ const HALF: &str =
         "field":{"kind":"whole","parts":[["a","b","ab"]]},"sets":[["half",["a"]],["whole",["ab","a","b"]]]}"#;
 
 /// Problems, with what is printed of their named sets.
-const PRINTED: [Row; 6] = [
+const PRINTED: [Row; 7] = [
     (NO_CELLS, ""),
     (EDGE, ""),
+    (
+        HULL,
+        "set s.t isolated yes index 1 0 0 invariant b\nset s.t isolated yes index 0 0 0 invariant\n",
+    ),
     (
         NAMED,
         "set top isolated yes index 0 0 1 invariant abc\n\
