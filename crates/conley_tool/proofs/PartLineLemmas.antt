@@ -1,10 +1,12 @@
 -- The lines of parts: one more at a time, and that they are determined.
-use Rattle.std.proofs.Common.{◌≡◌, ◌⊎◌, inl, inr, ◌<◌, ◌+◌, ℕ, List, [], ◌∷◌, ◌++◌, length, get_or, arith, ap, subst, sym, ◌∙◌}
+use Rattle.std.proofs.Common.{◌≡◌, ◌⊎◌, ◌↔◌, Bool, true, false, refl, if◌then◌else◌, inl, inr, ◌<◌, ◌+◌, ℕ, List, [], ◌∷◌, ◌++◌, length, get_or, arith, ap, subst, sym, ◌∙◌}
 use Rattle.std.proofs.Math.ListN.{get_or-append}
 use Rattle.std.proofs.Math.Seq.{get_or-append_seam}
-use Rattle.std.proofs.lemmas.Bool.{cases_lt}
+use Rattle.std.proofs.lemmas.Bool.{cases_lt, false≢true}
 use Rattle.std.proofs.lemmas.List.{length-append, ext_get_or}
-use Rattle.std.specs.Prelude.{slice_index_or, codes}
+use Rattle.std.specs.Prelude.{slice_index_or, codes, IsTrue}
+use Rattle.std.specs.List.Sorted.{IsStrictlyIncreasing}
+use Rattle.conley_mvf.specs.Partition.{AreCellsOf}
 use Rattle.conley_walk.proofs.AscendingLemmas.{same_numbers}
 use Rattle.conley_field.specs.Prime.{residues}
 use Rattle.conley_lefschetz.specs.Conley.{IsRegular}
@@ -29,6 +31,13 @@ lines_more problem p lines words before line = (
         subst (λ (l : List (List ℕ)). IsPartLine problem q l) (sym here) (subst (λ (n : ℕ). IsPartLine problem n words) part line)
   ],
 )
+
+-- the line of a part of which it is told whether it is regular
+pub part_line : (problem : Problem) (p : ℕ) (cells : List ℕ) (regular : Bool) → IsStrictlyIncreasing cells → AreCellsOf problem.part_of p cells →
+    IsTrue regular ↔ IsRegular (residues problem.order) problem.complex cells →
+    IsPartLine problem p ((if regular then codes "regular" else codes "critical") ∷ labels_of problem.complex.labels cells)
+part_line problem p cells true ascending of_part is = record { cells = cells; ascending = ascending; of_part = of_part; kind = inl (is.0 refl, refl) }
+part_line problem p cells false ascending of_part is = record { cells = cells; ascending = ascending; of_part = of_part; kind = inr ((λ r. false≢true (is.1 r)), refl) }
 
 -- a part has one line
 part_line_once : (problem : Problem) (p : ℕ) (a b : List (List ℕ)) → IsPartLine problem p a → IsPartLine problem p b → a ≡ b

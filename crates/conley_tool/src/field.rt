@@ -1,6 +1,6 @@
 //! `field FILE`: the parts of a problem, each regular or critical.
 
-ghost use Rattle.std.specs.Prelude.{◌≡◌, ◌<◌, ◌++◌, ◌∷◌, ℕ, List, All, OnOk, IfOk, IfErr, length, if◌then◌else◌, codes};
+ghost use Rattle.std.specs.Prelude.{◌≡◌, ◌<◌, ◌++◌, ◌∷◌, ℕ, List, All, OnOk, IfOk, IfErr, if◌then◌else◌, codes, length};
 ghost use Rattle.conley_input.specs.Problem.{IsSound};
 ghost use Rattle.conley_input.specs.ProblemMeaning.{meaning_of};
 ghost use Rattle.conley_texts.specs.Line.{line, text_of};

@@ -29,7 +29,7 @@ pub enum Outcome {
     Done,
     /// The certificate is an analysis, which was written.
     Accepted,
-    /// A file stands for no problem, or for one that can't be read yet, or for no certificate; or a problem has too many Morse sets.
+    /// A file stands for no problem, or for no certificate; or a problem has too many Morse sets.
     Refused(Fault),
     /// The certificate is no analysis: the first law that fails.
     Rejected(Reason),
