@@ -90,7 +90,8 @@ pub(crate) fn reads_file(verb: Verb) -> bool
     ensures { result ≡ spec.reads_file verb }
 {
     match verb {
-        Verb::Classes | Verb::Field | Verb::Morse | Verb::Sets | Verb::Analyze | Verb::Check => true,
+        Verb::Classes | Verb::Field | Verb::Morse | Verb::Sets | Verb::Analyze | Verb::Check =>
+            true,
         Verb::Trial => false,
     }
 }
@@ -103,7 +104,8 @@ fn fits(verb: Verb, arguments: &[String]) -> bool
         return false;
     }
     match verb {
-        Verb::Classes | Verb::Field | Verb::Morse | Verb::Sets | Verb::Analyze | Verb::Check => true,
+        Verb::Classes | Verb::Field | Verb::Morse | Verb::Sets | Verb::Analyze | Verb::Check =>
+            true,
         Verb::Trial => number_of(arguments[0].as_str()).is_some(),
     }
 }
