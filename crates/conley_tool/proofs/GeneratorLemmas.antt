@@ -1,5 +1,5 @@
 -- A certificate whose generators stand for cells has no more of them than there are cells.
-use Rattle.std.proofs.Common.{◌≡◌, ◌+◌, ◌<◌, ◌≤◌, ℕ, zero, suc, List, length, get_or, arith}
+use Rattle.std.proofs.Common.{◌<◌, ◌≤◌, ℕ, zero, suc, List, length, get_or, arith}
 use Rattle.std.specs.List.Sorted.{IsStrictlyIncreasing}
 use Rattle.conley_walk.proofs.ListLemmas.{rises}
 use Rattle.conley_graph.specs.Decomposition.{IsConleyMorseGraph}

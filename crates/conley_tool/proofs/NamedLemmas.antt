@@ -1,5 +1,5 @@
 -- What steps of a run give of the problem that an argument names, in a file or by a number.
-use Rattle.std.proofs.Common.{◌≡◌, inl, inr, ℕ, List, Bool, true, false, sym, subst}
+use Rattle.std.proofs.Common.{inl, inr, ℕ, List, Bool, true, false, sym, subst}
 use Rattle.conley_outside.specs.Depot.{Files}
 use Rattle.conley_input.specs.Problem.{Problem}
 use Rattle.conley_tool.specs.Due.{Due}

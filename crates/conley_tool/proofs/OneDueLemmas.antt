@@ -24,7 +24,7 @@ use Rattle.conley_certificate.specs.Analysis.{IsAnalysis}
 use Rattle.conley_trial.specs.Trial.{IsTrialProblem}
 use Rattle.conley_trial.proofs.OnceLemmas.{problem_once}
 use Rattle.conley_tool.specs.Due.{Due, ends, prints}
-use Rattle.conley_tool.specs.Words.{Command, reads_file, number_of}
+use Rattle.conley_tool.specs.Words.{Command, reads_file}
 use Rattle.conley_tool.specs.Fetches.{Holds, IsLonger, AfterFetch, AfterProblem, file_limit}
 use Rattle.conley_tool.specs.Classes.{ClassesAreDue}
 use Rattle.conley_tool.specs.Field.{FieldIsDue}

@@ -4,7 +4,6 @@ use Rattle.std.proofs.lemmas.List.{take_more}
 use Rattle.conley_field.specs.Arithmetic.{IsField}
 use Rattle.conley_field.specs.Prime.{residues}
 use Rattle.conley_lefschetz.proofs.ConleyLemmas.{numbers_are_one}
-use Rattle.conley_isolation.specs.Report.{Findings}
 use Rattle.conley_isolation.proofs.OnceLemmas.{report_once}
 use Rattle.conley_input.specs.Problem.{Problem, NamedSet}
 use Rattle.conley_tool.specs.Sets.{set_words, IsSetLine, AreSetLines}

@@ -1,5 +1,5 @@
 -- one more line
-use Rattle.std.proofs.Common.{arith, ◌≡◌, ◌↔◌, ◌<◌, ◌++◌, ◌∷◌, [], ℕ, List, true, length, sym, ◌∙◌, ap, subst, if◌then◌else◌, codes}
+use Rattle.std.proofs.Common.{arith, ◌≡◌, ◌↔◌, ◌<◌, ◌++◌, ◌∷◌, [], ℕ, List, length, sym, ◌∙◌, ap, subst, if◌then◌else◌, codes}
 use Rattle.std.specs.Prelude.{IsTrue}
 use Rattle.std.proofs.lemmas.List.{append-nil}
 use Rattle.conley_walk.proofs.ListLemmas.{All-from_contained}

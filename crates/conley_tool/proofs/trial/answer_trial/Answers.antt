@@ -1,6 +1,4 @@
-use Rattle.std.proofs.Common.{arith, ◌≡◌, ◌≤◌, ◌∙◌, length, get_or, inl, inr, ap, subst}
-use Rattle.std.proofs.lemmas.List.Elements.{Contains-get_or}
-use Rattle.conley_walk.specs.Lists.{items_of}
+use Rattle.std.proofs.Common.{arith, ◌≤◌, ◌∙◌, length, inl, inr, ap, subst}
 use Rattle.conley_walk.proofs.ListLemmas.{length-items_of}
 use Rattle.conley_field.specs.AnyField.{arithmetic_of}
 use Rattle.conley_field.specs.Arithmetic.{Arithmetic}
