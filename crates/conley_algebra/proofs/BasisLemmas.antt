@@ -10,10 +10,12 @@ use Rattle.conley_algebra.proofs.SumLemmas as sums
 use Rattle.conley_algebra.proofs.KernelLemmas.{kernel}
 
 module _ {F : Arithmetic} (laws : IsField F) where
-  pub combination_in : (Z : Vector → Type 0) → IsSubspace F Z → (r : ℕ) (z : ℕ → Vector) (a : Vector) → ((i : ℕ) → a i < F.order) → ((i : ℕ) → i < r → Z (z i)) → Z (combination F r z a)
+  pub combination_in : (Z : Vector → Type 0) → IsSubspace F Z → (r : ℕ) (z : ℕ → Vector) (a : Vector) → ((i : ℕ) → a i < F.order) → ((i : ℕ) → i < r → Z (z i))
+      → Z (combination F r z a)
   combination_in Z space zero z a codes members = space.zero_in
   combination_in Z space (suc r) z a codes members =
-      space.add_in (combination F r z a) (λ x. F.mul (a r) (z r x)) (combination_in Z space r z a codes (λ i below. members i (omega arith))) (space.mul_in (a r) (z r) (codes r) (members r (omega arith)))
+      space.add_in (combination F r z a) (λ x. F.mul (a r) (z r x)) (combination_in Z space r z a codes (λ i below. members i (omega arith)))
+      (space.mul_in (a r) (z r) (codes r) (members r (omega arith)))
 
   -- vectors that are combinations of others: the combination of them with a kernel's scalars is that of the rests
   combination-kernel : (r s : ℕ) (z w b : ℕ → Vector) (a : ℕ → Vector) (c : Vector)
@@ -52,7 +54,13 @@ module _ {F : Arithmetic} (laws : IsField F) where
     alone : (s : ℕ) (w : ℕ → Vector) → IsBasisModulo F Z B s w → (c : Vector) → ((j : ℕ) → c j < F.order) → B (combination F s w c) → (j : ℕ) → j < s → c j ≡ 0
     alone s w basis c codes inside =
         basis.once (combination F s w c) c (λ j. 0) (combination_in Z Z_space s w c codes basis.members)
-        (record { codes = codes; rest = λ x. 0; in_B = B_space.zero_in; is = λ x. sym (laws.add_zero (combination F s w c x) (sums.sum_below-below laws s (λ j. F.mul (c j) (w j x)))) })
+        (record {
+          codes = codes;
+          rest = λ x. 0;
+          in_B = B_space.zero_in;
+          is = λ x. sym (laws.add_zero (combination F s w c x)
+              (sums.sum_below-below laws s (λ j. F.mul (c j) (w j x))));
+        })
         (record {
           codes = λ j. sums.zero_below laws;
           rest = combination F s w c;
@@ -68,7 +76,8 @@ module _ {F : Arithmetic} (laws : IsField F) where
         let c = kernel laws r s (λ i j. (by j).scalars i) (λ i j. (by j).codes i) longer in
         let same : combination F s w c.0 ≡ combination F s (λ j. (by j).rest) c.0 =
         fun_ext (combination-kernel r s z w (λ j. (by j).rest) (λ j. (by j).scalars) c.0 (λ j below. (by j).is below) c.1.zero_rows) in
-        let inside : B (combination F s w c.0) = subst B (sym same) (combination_in B B_space s (λ j. (by j).rest) c.0 c.1.codes (λ j below. (by j).in_B below)) in
+        let inside : B (combination F s w c.0) = subst B (sym same) (combination_in B B_space s (λ j. (by j).rest) c.0 c.1.codes
+        (λ j below. (by j).in_B below)) in
         c.1.some.1.1 (alone s w w_basis c.0 c.1.codes inside c.1.some.0 c.1.some.1.0)
 
     pub same_length : (r s : ℕ) (z w : ℕ → Vector) → IsBasisModulo F Z B r z → IsBasisModulo F Z B s w → r ≡ s

@@ -74,9 +74,11 @@ module _ {F : Arithmetic} (laws : IsField F) (n : ℕ) (boundary : Entries) (dim
       (v : Vector) → IsRelativeCycle F n boundary closure mouth v → IsRelativeBoundary F n boundary closure mouth v
   all_boundaries z none v c =
       let sum : IsRelativeBoundary F n boundary closure mouth (combination F levels (λ k. part k v) (λ k. 1)) =
-      combination_in laws (IsRelativeBoundary F n boundary closure mouth) (boundaries laws n boundary dim closure mouth 0) levels (λ k. part k v) (λ k. 1) (λ k. laws.one_below) (λ k below.
+      combination_in laws (IsRelativeBoundary F n boundary closure mouth) (boundaries laws n boundary dim closure mouth 0) levels (λ k. part k v) (λ k. 1)
+      (λ k. laws.one_below) (λ k below.
       let e = (none k below).spans (part k v) (part-cycle k v c, λ x some. (part-some k v x some).0) in
-      let rest_is : e.1.rest ≡ part k v = fun_ext (λ x. rest_same (part k v x) (e.1.rest x) (subst (λ (t : ℕ). t < F.order) (sym (e.1.in_B.is x)) (laws.add_below _ _)) (e.1.is x)) in
+      let rest_is : e.1.rest ≡ part k v = fun_ext (λ x. rest_same (part k v x) (e.1.rest x)
+      (subst (λ (t : ℕ). t < F.order) (sym (e.1.in_B.is x)) (laws.add_below _ _)) (e.1.is x)) in
       subst (IsRelativeBoundary F n boundary closure mouth) rest_is e.1.in_B) in
       subst (IsRelativeBoundary F n boundary closure mouth) (fun_ext (whole v c)) sum
     where

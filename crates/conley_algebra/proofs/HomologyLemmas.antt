@@ -44,14 +44,16 @@ module _ {F : Arithmetic} (laws : IsField F) where
       zero_in = (
         record {
           chain = (chains closure).zero_in;
-          on_mouth = same_chain mouth (λ x. 0) (image_of F n boundary (λ x. 0)) (images.image-zero laws n boundary) (λ x. sums.sum_below-below laws n _) ((chains mouth).zero_in);
+          on_mouth = same_chain mouth (λ x. 0) (image_of F n boundary (λ x. 0)) (images.image-zero laws n boundary) (λ x. sums.sum_below-below laws n _)
+              ((chains mouth).zero_in);
         },
         λ x some. absurd (some refl),
       );
       add_in = λ u v left right. (
         record {
           chain = (chains closure).add_in u v left.0.chain right.0.chain;
-          on_mouth = same_chain mouth _ (image_of F n boundary (λ x. F.add (u x) (v x))) (images.image-add laws n boundary u v) (λ x. sums.sum_below-below laws n _)
+          on_mouth = same_chain mouth _ (image_of F n boundary (λ x. F.add (u x) (v x))) (images.image-add laws n boundary u v)
+              (λ x. sums.sum_below-below laws n _)
               ((chains mouth).add_in (image_of F n boundary u) (image_of F n boundary v) left.0.on_mouth right.0.on_mouth);
         },
         add_only (λ x. dim x ≡ k) u v left.1 right.1,
@@ -95,6 +97,8 @@ module _ {F : Arithmetic} (laws : IsField F) where
     }
 
     -- any two lists that meet the definition have one length
-    pub one_length : (r s : ℕ) (z w : ℕ → Vector) → IsHomologyBasis F n boundary dim closure mouth k r z → IsHomologyBasis F n boundary dim closure mouth k s w → r ≡ s
+    pub one_length : (r s : ℕ) (z w : ℕ → Vector) → IsHomologyBasis F n boundary dim closure mouth k r z → IsHomologyBasis F n boundary dim closure mouth k s w
+        → r ≡ s
     one_length r s z w first second =
-        same_length laws (λ v. IsRelativeCycle F n boundary closure mouth v × ((x : ℕ) → v x ≢ 0 → dim x ≡ k)) (IsRelativeBoundary F n boundary closure mouth) cycles boundaries r s z w first second
+        same_length laws (λ v. IsRelativeCycle F n boundary closure mouth v × ((x : ℕ) → v x ≢ 0 → dim x ≡ k)) (IsRelativeBoundary F n boundary closure mouth)
+        cycles boundaries r s z w first second

@@ -25,23 +25,27 @@ module _ {F : Arithmetic} (laws : IsField F) where
   pub image-congr : (n : ℕ) (a b : Entries) (v : Vector) (row : ℕ) → SameEntries a b → image_of F n a v row ≡ image_of F n b v row
   image-congr n a b v row same = sums.sum_below-congr laws n _ _ (λ k below. ap (λ t. F.mul t (v k)) (same row k))
 
-  pub image-add : (n : ℕ) (a : Entries) (u v : Vector) (row : ℕ) → image_of F n a (λ x. F.add (u x) (v x)) row ≡ F.add (image_of F n a u row) (image_of F n a v row)
+  pub image-add : (n : ℕ) (a : Entries) (u v : Vector) (row : ℕ) → image_of F n a (λ x. F.add (u x) (v x)) row ≡ F.add (image_of F n a u row)
+      (image_of F n a v row)
   image-add n a u v row = ap (λ (e : Entries). e row 0) (matrices.product-plus laws n a (λ k column. u k) (λ k column. v k))
 
   pub image-mul : (n : ℕ) (a : Entries) (c : ℕ) (v : Vector) (row : ℕ) → image_of F n a (λ x. F.mul c (v x)) row ≡ F.mul c (image_of F n a v row)
   image-mul n a c v row =
-      sums.sum_below-congr laws n _ _ (λ k below. sym (laws.mul_assoc (a row k) c (v k)) ∙ ap (λ t. F.mul t (v k)) (laws.mul_comm (a row k) c) ∙ laws.mul_assoc c (a row k) (v k))
+      sums.sum_below-congr laws n _ _ (λ k below. sym (laws.mul_assoc (a row k) c (v k)) ∙ ap (λ t. F.mul t (v k)) (laws.mul_comm (a row k) c)
+      ∙ laws.mul_assoc c (a row k) (v k))
       ∙ sym (sums.mul-sum_below laws n c (λ k. F.mul (a row k) (v k)))
 
   pub image-zero : (n : ℕ) (a : Entries) (row : ℕ) → image_of F n a (λ x. 0) row ≡ 0
   image-zero n a row = sums.sum_below-zero laws n _ (λ k below. sums.mul-zero laws (a row k))
 
-  pub image-combination : (n r : ℕ) (a : Entries) (z : ℕ → Vector) (c : Vector) (row : ℕ) → image_of F n a (combination F r z c) row ≡ sum_below F r (λ i. F.mul (c i) (image_of F n a (z i) row))
+  pub image-combination : (n r : ℕ) (a : Entries) (z : ℕ → Vector) (c : Vector) (row : ℕ) → image_of F n a (combination F r z c) row ≡ sum_below F r
+      (λ i. F.mul (c i) (image_of F n a (z i) row))
   image-combination n r a z c row =
       sums.sum_below-congr laws n _ _ (λ k below. sums.mul-sum_below laws r (a row k) (λ i. F.mul (c i) (z i k)))
       ∙ sums.sum_below-exchange laws n r (λ k i. F.mul (a row k) (F.mul (c i) (z i k)))
       ∙ sums.sum_below-congr laws r _ _ (λ i below.
-      sums.sum_below-congr laws n _ _ (λ k k_below. sym (laws.mul_assoc (a row k) (c i) (z i k)) ∙ ap (λ t. F.mul t (z i k)) (laws.mul_comm (a row k) (c i)) ∙ laws.mul_assoc (c i) (a row k) (z i k))
+      sums.sum_below-congr laws n _ _ (λ k k_below. sym (laws.mul_assoc (a row k) (c i) (z i k)) ∙ ap (λ t. F.mul t (z i k)) (laws.mul_comm (a row k) (c i))
+      ∙ laws.mul_assoc (c i) (a row k) (z i k))
       ∙ sym (sums.mul-sum_below laws n (c i) (λ k. F.mul (a row k) (z i k))))
 
   -- an entry of an image that isn't zero comes from some place
@@ -65,12 +69,19 @@ module _ {F : Arithmetic} (laws : IsField F) where
   pub sum_by_list : (n r : ℕ) (list : ℕ → ℕ) (f : ℕ → ℕ) → ((i : ℕ) → i < r → list i < n) → ((i j : ℕ) → i < r → j < r → list i ≡ list j → i ≡ j)
       → ((k : ℕ) → k < n → f k ≢ 0 → (i : ℕ) × ((i < r) × (list i ≡ k))) → sum_below F n f ≡ sum_below F r (λ i. f (list i))
   sum_by_list n zero list f within distinct support =
-      sums.sum_below-zero laws n f (λ k below. elim (cases_eq (f k) 0) [ inl none ↦ none | inr some ↦ (let found = support k below some in let none : found.0 < 0 = found.1.0 in absurd (omega arith)) ])
+      sums.sum_below-zero laws n f (λ k below. elim (cases_eq (f k) 0) [
+        | inl none ↦ none
+        | inr
+            some ↦ (let found = support k below some in let none : found.0 < 0 = found.1.0 in absurd (omega arith))
+      ])
   sum_by_list n (suc r) list f within distinct support =
-      sums.sum_below-one_more laws n (without f (list r)) f (list r) (f (list r)) (within r (omega arith)) (without-at f (list r) (list r) refl) refl (λ k differs. sym (without-other f (list r) k differs))
+      sums.sum_below-one_more laws n (without f (list r)) f (list r) (f (list r)) (within r (omega arith)) (without-at f (list r) (list r) refl) refl
+      (λ k differs. sym (without-other f (list r) k differs))
       ∙ ap (λ t. F.add t (f (list r)))
-      (sum_by_list n r list (without f (list r)) (λ i below. within i (omega arith)) (λ i j i_below j_below same. distinct i j (omega arith) (omega arith) same) narrowed
-      ∙ sums.sum_below-congr laws r _ _ (λ i below. without-other f (list r) (list i) (λ same. (let e : i ≡ r = distinct i r (omega arith) (omega arith) same in absurd (omega arith)))))
+      (sum_by_list n r list (without f (list r)) (λ i below. within i (omega arith)) (λ i j i_below j_below same. distinct i j (omega arith) (omega arith)
+      same) narrowed
+      ∙ sums.sum_below-congr laws r _ _ (λ i below. without-other f (list r) (list i) (λ same.
+      (let e : i ≡ r = distinct i r (omega arith) (omega arith) same in absurd (omega arith)))))
     where
       narrowed : (k : ℕ) → k < n → without f (list r) k ≢ 0 → (i : ℕ) × ((i < r) × (list i ≡ k))
       narrowed k below some = elim (cases_eq k (list r)) [

@@ -20,10 +20,12 @@ other_low : (low high i : ℕ) → i < low → other_than low high i ≡ i
 other_low low high i below = ap (λ b. cond b i (cond (nat_lt (i + 1) high) (i + 1) (i + 2))) (lt-ltb i low below)
 
 other_middle : (low high i : ℕ) → low ≤ i → i + 1 < high → other_than low high i ≡ i + 1
-other_middle low high i above below = ap (λ b. cond b i (cond (nat_lt (i + 1) high) (i + 1) (i + 2))) (le-ltb i low above) ∙ ap (λ b. cond b (i + 1) (i + 2)) (lt-ltb (i + 1) high below)
+other_middle low high i above below = ap (λ b. cond b i (cond (nat_lt (i + 1) high) (i + 1) (i + 2))) (le-ltb i low above)
+    ∙ ap (λ b. cond b (i + 1) (i + 2)) (lt-ltb (i + 1) high below)
 
 other_high : (low high i : ℕ) → low ≤ i → high ≤ i + 1 → other_than low high i ≡ i + 2
-other_high low high i above beyond = ap (λ b. cond b i (cond (nat_lt (i + 1) high) (i + 1) (i + 2))) (le-ltb i low above) ∙ ap (λ b. cond b (i + 1) (i + 2)) (le-ltb (i + 1) high beyond)
+other_high low high i above beyond = ap (λ b. cond b i (cond (nat_lt (i + 1) high) (i + 1) (i + 2))) (le-ltb i low above)
+    ∙ ap (λ b. cond b (i + 1) (i + 2)) (le-ltb (i + 1) high beyond)
 
 -- which of the three it is
 pub data Part (low high i o : ℕ) : Type 0 where
@@ -91,7 +93,8 @@ turned K Q list others = record {
 pub others : (K Q : ℕ) → K ≢ Q → AreOthers K Q (other K Q)
 others K Q differ = elim (cases_lt K Q) [
   | inl below ↦ subst (AreOthers K Q) (fun_ext (λ i. sym (ap (λ b. cond b (other_than K Q i) (other_than Q K i)) (lt-ltb K Q below)))) (in_order K Q below)
-  | inr beyond ↦ subst (AreOthers K Q) (fun_ext (λ i. sym (ap (λ b. cond b (other_than K Q i) (other_than Q K i)) (le-ltb K Q beyond)))) (turned K Q (other_than Q K) (in_order Q K (omega arith)))
+  | inr beyond ↦ subst (AreOthers K Q) (fun_ext (λ i. sym (ap (λ b. cond b (other_than K Q i) (other_than Q K i)) (le-ltb K Q beyond))))
+      (turned K Q (other_than Q K) (in_order Q K (omega arith)))
 ]
 
 -- each number other than the two is one of the list

@@ -3,7 +3,7 @@
 --     IsKernel F r s a c     the s scalars c are not all zero, and the first r rows of a take them to zero
 use Rattle.std.specs.Prelude.{◌≡◌, ◌≢◌, ℕ, ◌<◌}
 use Rattle.conley_field.specs.Arithmetic.{Arithmetic}
-use Rattle.conley_algebra.specs.Entries.{Vector, Entries, image_of}
+use Rattle.conley_algebra.specs.Entries.{Vector, Entries, image_of, AreCodes}
 
 -- closed under sums and multiples
 pub record IsSubspace (F : Arithmetic) (Z : Vector → Type 0) : Type 0 where
@@ -13,6 +13,6 @@ pub record IsSubspace (F : Arithmetic) (Z : Vector → Type 0) : Type 0 where
 
 -- scalars, not all of them zero, with which the rows below r give zero
 pub record IsKernel (F : Arithmetic) (r s : ℕ) (a : Entries) (c : Vector) : Type 0 where
-  pub codes : (j : ℕ) → c j < F.order
+  pub codes : AreCodes F c
   pub some : (j : ℕ) × ((j < s) × (c j ≢ 0))
   pub zero_rows : (i : ℕ) → i < r → image_of F s a c i ≡ 0

@@ -11,8 +11,10 @@ pub record IsNumbered (sets : List (List ℕ)) (cells i : ℕ) (number : List �
   pub width : length number ≡ cells
   pub inside : (j x : ℕ) → j < i → IsAt sets x j → slice_index number x ≡ j
 
-pub numbered_more : (sets : List (List ℕ)) (cells : ℕ) → ((i j x : ℕ) → IsAt sets x i → IsAt sets x j → i ≡ j) → (i : ℕ) (number new set_cells : List ℕ) → IsNumbered sets cells i number → i < length sets → set_cells ≡ set_at sets i
-    → length new ≡ length number → ((x : ℕ) → Contains set_cells x → slice_index new x ≡ i) → ((x : ℕ) → ¬ Contains set_cells x → slice_index new x ≡ slice_index number x) → IsNumbered sets cells (i + 1) new
+pub numbered_more : (sets : List (List ℕ)) (cells : ℕ) → ((i j x : ℕ) → IsAt sets x i → IsAt sets x j → i ≡ j) → (i : ℕ) (number new set_cells : List ℕ)
+    → IsNumbered sets cells i number → i < length sets → set_cells ≡ set_at sets i
+    → length new ≡ length number → ((x : ℕ) → Contains set_cells x → slice_index new x ≡ i)
+    → ((x : ℕ) → ¬ Contains set_cells x → slice_index new x ≡ slice_index number x) → IsNumbered sets cells (i + 1) new
 numbered_more sets cells once i number new set_cells is below cells_are width inside outside = record {
   width = width ∙ is.width;
   inside = λ j x less at. elim (cases_eq j i) [
@@ -30,7 +32,8 @@ pub record AreNamedSoFar (sets : List (List ℕ)) (base dims : List ℕ) (n : �
 pub none_named : (sets : List (List ℕ)) (base dims : List ℕ) → AreNamedSoFar sets base dims 0 []
 none_named sets base dims = record { count = refl; at = λ g below. absurd (omega arith); dim = λ g below. absurd (omega arith) }
 
-pub named_more : (sets : List (List ℕ)) (base dims : List ℕ) (n : ℕ) (names : List (ℕ × ℕ)) (name : ℕ × ℕ) → AreNamedSoFar sets base dims n names → IsAt sets (get_or base n 0) name.0 → name.1 ≡ get_or dims n 0
+pub named_more : (sets : List (List ℕ)) (base dims : List ℕ) (n : ℕ) (names : List (ℕ × ℕ)) (name : ℕ × ℕ) → AreNamedSoFar sets base dims n names
+    → IsAt sets (get_or base n 0) name.0 → name.1 ≡ get_or dims n 0
     → AreNamedSoFar sets base dims (n + 1) (names ++ name ∷ [])
 named_more sets base dims n names name so_far here dim = record {
   count = length_push names name ∙ ap (λ k. k + 1) so_far.count;
@@ -50,5 +53,6 @@ named_more sets base dims n names name so_far here dim = record {
   before g below = get_or_append_left names (name ∷ []) (0, 0) g (omega (arith, below, so_far.count))
 
 -- what the numbers of the sets tell of a cell
-pub number_at : (sets : List (List ℕ)) (number : List ℕ) (x n i : ℕ) → ((j y : ℕ) → IsAt sets y j → slice_index number y ≡ j) → IsAt sets x i → n ≡ slice_index number x → IsAt sets x n
+pub number_at : (sets : List (List ℕ)) (number : List ℕ) (x n i : ℕ) → ((j y : ℕ) → IsAt sets y j → slice_index number y ≡ j) → IsAt sets x i
+    → n ≡ slice_index number x → IsAt sets x n
 number_at sets number x n i numbers at is = subst (IsAt sets x) (sym (is ∙ numbers i x at)) at

@@ -1,7 +1,7 @@
 //! The certificate of a multivector field.
 
 ghost use Rattle.std.specs.Prelude.{◌≡◌, ◌≤◌, ℕ, List, Err, IfOk, length};
-ghost use Rattle.conley_walk.specs.Lists.{items_of};
+ghost use Rattle.conley_lists.specs.Lists.{items_of};
 ghost use Rattle.conley_mvf.specs.Partition.{IsMultivectorField};
 ghost use Rattle.conley_graph.specs.Decomposition.{IsConleyMorseGraph, HasTooManySets};
 ghost use Rattle.conley_certificate.specs.Problem.{problem_of};
@@ -32,9 +32,11 @@ pub fn analyze<F: Field>(
     requires { IsMultivectorField complex.now.1.faces partition.now }
     ensures analysis { IfOk result (λ c. IsAnalysis (problem_of (F.arithmetic complex.now.0) complex.now.1 partition.now) (meaning_of c)) }
     ensures fits { IfOk result (λ c. Fits (F.arithmetic complex.now.0) complex.now.1 (meaning_of c)) }
-    ensures graph { IfOk result (λ c. IsConleyMorseGraph (F.arithmetic complex.now.0) complex.now.1 partition.now (meaning_of c).morse (meaning_of c).index (meaning_of c).order) }
+    ensures graph { IfOk result (λ c. IsConleyMorseGraph (F.arithmetic complex.now.0) complex.now.1 partition.now (meaning_of c).morse (meaning_of c).index
+        (meaning_of c).order) }
     ensures few { IfOk result (λ c. length c.morse.items ≤ 2000) }
-    ensures cells { IfOk result (λ c. (cells : List ℕ) × KeepsCells (problem_of (F.arithmetic complex.now.0) complex.now.1 partition.now) (meaning_of c) cells) }
+    ensures cells { IfOk result (λ c. (cells : List ℕ) × KeepsCells (problem_of (F.arithmetic complex.now.0) complex.now.1 partition.now) (meaning_of c)
+        cells) }
     ensures too_many { (n : ℕ) → result ≡ Err (MorseError.TooManyMorse n) → HasTooManySets (F.arithmetic complex.now.0) complex.now.1 partition.now n }
 {
     let Decomposition {
@@ -49,7 +51,7 @@ pub fn analyze<F: Field>(
         complex: small,
         equivalence,
     } = reduce(alloc, &graded)?;
-    let _count = small.count();
+    let _filtered = small.count();
     let generators = named(alloc, complex.count(), &sets, &small)?;
     let matrix = small.matrix().copy(alloc)?;
     let Equivalence {

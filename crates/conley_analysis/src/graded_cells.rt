@@ -1,15 +1,15 @@
 //! A complex as a graded complex.
 
 ghost use Rattle.std.specs.Prelude.{◌≡◌, ◌<◌, ◌^◌, ℕ, true, IfOk, length, slice_index_or};
-ghost use Rattle.conley_walk.specs.Lists.{IsDigraph, ListedStep};
+ghost use Rattle.conley_lists.specs.Lists.{IsDigraph, ListedStep};
 ghost use Rattle.conley_order.specs.ClassRows.{is_at_or_below};
 
 use crate::NoMemory;
 use conley_field::Field;
 use conley_graded::GradedComplex;
 use conley_lefschetz::Complex;
+use conley_lists::all_numbers;
 use conley_order::ReachRows;
-use conley_walk::all_numbers;
 use std::alloc::Global;
 
 /// The complex, graded by a preorder of its cells that puts faces below: each cell is its own base.

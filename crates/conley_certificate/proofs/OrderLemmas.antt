@@ -3,9 +3,10 @@ use Rattle.std.proofs.Common.{◌≡◌, inl, inr, ℕ, ◌<◌, ◌==◌, ◌&&
 use Rattle.std.specs.Prelude.{Contains, ◌↔◌, not}
 use Rattle.std.specs.List.{list_any}
 use Rattle.std.proofs.lemmas.Bool.{eqb-true, eq-eqb, ne_eqb, eqb-false, and_from, or_left, or_right, not_from_false}
-use Rattle.conley_walk.proofs.ContainsLemmas.{Contains-first, Contains-rest, Contains-cases}
+use Rattle.conley_lists.proofs.ContainsLemmas.{Contains-first, Contains-rest, Contains-cases}
 use Rattle.conley_walk.proofs.WalkLemmas.{reaches_on}
-use Rattle.conley_transitions.specs.Field.{Field, StepOf, AreRecurrent}
+use Rattle.conley_walk.specs.Walk.{AreRecurrent}
+use Rattle.conley_transitions.specs.Flow.{Flow, StepOf}
 use Rattle.conley_transitions.specs.Morse.{set_at, IsAt, SetReaches, IsReachOrder}
 use Rattle.conley_certificate.specs.Tests.{any_below}
 use Rattle.conley_certificate.specs.Problem.{Problem, IsProblem, flow}
@@ -36,8 +37,9 @@ Contains-listed (e ∷ pairs) p q c = elim (Contains-cases e pairs (p, q) c) [
 ]
 
 -- lists of the same sets, cells in any order, have the same covers
-pub cover_same : (field : Field) (a b : List (List ℕ)) → length a ≡ length b → ((i x : ℕ) → Contains (set_at a i) x ↔ Contains (set_at b i) x) → (p q : ℕ) → IsCover field a p q → IsCover field b p q
-cover_same field a b count same p q cover = record {
+pub cover_same : (flow : Flow) (a b : List (List ℕ)) → length a ≡ length b → ((i x : ℕ) → Contains (set_at a i) x ↔ Contains (set_at b i) x) → (p q : ℕ)
+    → IsCover flow a p q → IsCover flow b p q
+cover_same flow a b count same p q cover = record {
   upper = omega (arith, cover.upper, count);
   lower = omega (arith, cover.lower, count);
   differ = cover.differ;
@@ -47,12 +49,20 @@ cover_same field a b count same p q cover = record {
       (further.0, further.1, (same r further.0).1 further.2, (same q further.1).1 further.3, further.4);
 }
 
-module _ (P : Problem) (ok : IsProblem P) (C : Certificate) (fits : Fits P.scalars P.complex C) (classes : (i x y : ℕ) → IsAt C.morse x i → Contains (set_at C.morse i) y ↔ AreRecurrent (StepOf (flow P)) x y) where
-  pub set_reaches-SetReaches : (p q : ℕ) → p < set_count C → q < set_count C → set_reaches P C p q ≡ true → SetReaches (flow P) (set_at C.morse p) (set_at C.morse q)
-  set_reaches-SetReaches p q p_below q_below h =
-      (first_cell C p, first_cell C q, (sets.first_at P ok C fits p p_below).1, (sets.first_at P ok C fits q q_below).1, reaches-Below P ok (first_cell C p) (first_cell C q) h)
+module _ (P : Problem) (ok : IsProblem P) (C : Certificate) (fits : Fits P.scalars P.complex C)
+    (classes : (i x y : ℕ) → IsAt C.morse x i → Contains (set_at C.morse i) y ↔ AreRecurrent (StepOf (flow P)) x y) where
+  pub set_reaches-SetReaches : (p q : ℕ) → p < set_count C → q < set_count C → set_reaches P C p q ≡ true
+      → SetReaches (flow P) (set_at C.morse p) (set_at C.morse q)
+  set_reaches-SetReaches p q p_below q_below h = (
+    first_cell C p,
+    first_cell C q,
+    (sets.first_at P ok C fits p p_below).1,
+    (sets.first_at P ok C fits q q_below).1,
+    reaches-Below P ok (first_cell C p) (first_cell C q) h,
+  )
 
-  pub SetReaches-set_reaches : (p q : ℕ) → p < set_count C → q < set_count C → SetReaches (flow P) (set_at C.morse p) (set_at C.morse q) → set_reaches P C p q ≡ true
+  pub SetReaches-set_reaches : (p q : ℕ) → p < set_count C → q < set_count C → SetReaches (flow P) (set_at C.morse p) (set_at C.morse q)
+      → set_reaches P C p q ≡ true
   SetReaches-set_reaches p q p_below q_below r =
       let from : AreRecurrent (StepOf (flow P)) (first_cell C p) r.0 = (classes p (first_cell C p) r.0 (sets.first_at P ok C fits p p_below)).0 r.2 in
       let to : AreRecurrent (StepOf (flow P)) (first_cell C q) r.1 = (classes q (first_cell C q) r.1 (sets.first_at P ok C fits q q_below)).0 r.3 in
@@ -64,7 +74,10 @@ module _ (P : Problem) (ok : IsProblem P) (C : Certificate) (fits : Fits P.scala
 
   pub lower_order : IsReachOrder (flow P) C.morse is_lower
   lower_order p q p_below q_below = (
-    λ h. (let parts = both (not (p == q)) (set_reaches P C p q) h in (eqb-false p q (not-is_true (p == q) parts.0), set_reaches-SetReaches p q p_below q_below parts.1)),
+    λ h. (let parts = both (not (p == q)) (set_reaches P C p q) h in (
+      eqb-false p q (not-is_true (p == q) parts.0),
+      set_reaches-SetReaches p q p_below q_below parts.1,
+    )),
     λ h. and_from (not (p == q)) (set_reaches P C p q) (not_from_false (p == q) (ne_eqb p q h.0)) (SetReaches-set_reaches p q p_below q_below h.1),
   )
 
@@ -83,7 +96,8 @@ module _ (P : Problem) (ok : IsProblem P) (C : Certificate) (fits : Fits P.scala
         none_between = λ r r_below not_p not_q down further. never (between p q r)
             (and_from (not (r == p) && not (r == q)) (set_reaches P C p r && set_reaches P C r q)
             (and_from (not (r == p)) (not (r == q)) (not_from_false (r == p) (ne_eqb r p not_p)) (not_from_false (r == q) (ne_eqb r q not_q)))
-            (and_from (set_reaches P C p r) (set_reaches P C r q) (SetReaches-set_reaches p r p_below r_below down) (SetReaches-set_reaches r q r_below q_below further)))
+            (and_from (set_reaches P C p r) (set_reaches P C r q) (SetReaches-set_reaches p r p_below r_below down)
+            (SetReaches-set_reaches r q r_below q_below further)))
             (any_below-none (set_count C) (between p q) (not-is_true (any_below (set_count C) (between p q)) parts.1) r r_below);
       }
 

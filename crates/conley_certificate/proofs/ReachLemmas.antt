@@ -3,17 +3,16 @@ use Rattle.std.proofs.Common.{◌≡◌, ◌≢◌, ◌⊎◌, inl, inr, ℕ, �
 use Rattle.std.specs.Prelude.{nat_lt, slice_index_or, length}
 use Rattle.std.proofs.lemmas.Bool.{cases_lt, eqb-true, eq-eqb, ltb-true, lt-ltb, and_from, or_left, or_right}
 use Rattle.conley_chains.specs.Matrix.{entry}
-use Rattle.conley_walk.specs.Walk.{Reaches}
-use Rattle.conley_walk.specs.Lists.{ListedStep}
+use Rattle.conley_walk.specs.Walk.{Reaches, AreRecurrent}
+use Rattle.conley_lists.specs.Lists.{ListedStep, is_listed}
 use Rattle.conley_walk.proofs.WalkLemmas.{reaches_itself, reaches_on, reaches_by_step, reaches_least}
 use Rattle.conley_faces.specs.Face.{IsFace}
-use Rattle.conley_transitions.specs.Field.{StepOf, ShareAPart, AreRecurrent}
+use Rattle.conley_transitions.specs.Flow.{StepOf, ShareAPart}
 use Rattle.conley_transitions.proofs.EssentialLemmas.{recurrent_itself, recurrent_back, recurrent_on}
-use Rattle.conley_certificate.specs.Tests.{has}
 use Rattle.conley_certificate.specs.Problem.{Problem, IsProblem, cell_count, part_at, flow, Below}
 use Rattle.conley_certificate.specs.Reach.{is_step, reaches, recurs, least_of}
 use Rattle.conley_certificate.proofs.WithinLemmas.{parts, boundary_is}
-use Rattle.conley_certificate.proofs.TestLemmas.{never, both, either, has-Contains, Contains-has, first_pass-is, leads-Reaches, Reaches-leads}
+use Rattle.conley_certificate.proofs.TestLemmas.{never, both, either, is_listed-Contains, Contains-is_listed, first_pass-is, leads-Reaches, Reaches-leads}
 
 module _ (P : Problem) (ok : IsProblem P) where
   -- incidences join cells
@@ -55,17 +54,21 @@ module _ (P : Problem) (ok : IsProblem P) where
       (cell_part x (ltb-true x (cell_count P) first.0), (cell_part y (ltb-true y (cell_count P) second.0), sym (eqb-true (part_at P x) (part_at P y) second.1)))
 
   step_sound : (x y : ℕ) → is_step P x y ≡ true → StepOf (flow P) x y
-  step_sound x y h = elim (either (has (slice_index_or P.complex.faces x []) y) (nat_lt x (cell_count P) && (nat_lt y (cell_count P) && (part_at P x == part_at P y))) h) [
-    | inl under ↦ inl (listed_face x y (has-Contains (slice_index_or P.complex.faces x []) y under))
-    | inr share ↦ inr (share_test x y share)
-  ]
+  step_sound x y h = elim (either (is_listed (slice_index_or P.complex.faces x []) y) (nat_lt x (cell_count P) &&
+      (nat_lt y (cell_count P) && (part_at P x == part_at P y))) h) [
+        | inl under ↦ inl (listed_face x y (is_listed-Contains (slice_index_or P.complex.faces x []) y under))
+        | inr share ↦ inr (share_test x y share)
+      ]
 
   step_complete : (x y : ℕ) → Direct x y → is_step P x y ≡ true
   unfolding Direct
-  step_complete x y (inl under) = or_left (has (slice_index_or P.complex.faces x []) y) (nat_lt x (cell_count P) && (nat_lt y (cell_count P) && (part_at P x == part_at P y))) (Contains-has (slice_index_or P.complex.faces x []) y under)
-  step_complete x y (inr share) = or_right (has (slice_index_or P.complex.faces x []) y) (nat_lt x (cell_count P) && (nat_lt y (cell_count P) && (part_at P x == part_at P y)))
+  step_complete x y (inl under) = or_left (is_listed (slice_index_or P.complex.faces x []) y)
+      (nat_lt x (cell_count P) && (nat_lt y (cell_count P) && (part_at P x == part_at P y))) (Contains-is_listed (slice_index_or P.complex.faces x []) y under)
+  step_complete x y (inr share) = or_right (is_listed (slice_index_or P.complex.faces x []) y)
+      (nat_lt x (cell_count P) && (nat_lt y (cell_count P) && (part_at P x == part_at P y)))
       (and_from (nat_lt x (cell_count P)) (nat_lt y (cell_count P) && (part_at P x == part_at P y)) (lt-ltb x (cell_count P) (part_cell x share.0))
-      (and_from (nat_lt y (cell_count P)) (part_at P x == part_at P y) (lt-ltb y (cell_count P) (part_cell y share.1.0)) (eq-eqb (part_at P x) (part_at P y) (sym share.1.1))))
+      (and_from (nat_lt y (cell_count P)) (part_at P x == part_at P y) (lt-ltb y (cell_count P) (part_cell y share.1.0))
+      (eq-eqb (part_at P x) (part_at P y) (sym share.1.1))))
 
   direct_within : (x y : ℕ) → Direct x y → y < cell_count P
   unfolding Direct
@@ -92,7 +95,11 @@ module _ (P : Problem) (ok : IsProblem P) where
       (reaches_least (Reaches Direct x) (λ a b s there. reaches_on there (step_direct a b s)) r (reaches_itself x))
 
   pub recurs-AreRecurrent : (x y : ℕ) → recurs P x y ≡ true → AreRecurrent (StepOf (flow P)) x y
-  recurs-AreRecurrent x y h = (let parts = both (reaches P x y) (reaches P y x) h in record { there = reaches-Below x y parts.0; back = reaches-Below y x parts.1 })
+  recurs-AreRecurrent x y h = (let parts = both (reaches P x y) (reaches P y x) h in record {
+    there = reaches-Below x y parts.0;
+    back =
+        reaches-Below y x parts.1;
+  })
 
   pub AreRecurrent-recurs : (x y : ℕ) → AreRecurrent (StepOf (flow P)) x y → recurs P x y ≡ true
   AreRecurrent-recurs x y r = and_from (reaches P x y) (reaches P y x) (Below-reaches x y r.there) (Below-reaches y x r.back)
@@ -129,7 +136,8 @@ module _ (P : Problem) (ok : IsProblem P) where
 
   pub least-same : (x y : ℕ) → AreRecurrent (StepOf (flow P)) x y → least_of P x ≡ least_of P y
   least-same x y r =
-      let up : least_of P x ≤ least_of P y = least-most x (least_of P y) (recurrent_on (StepOf (flow P)) (flow P) (least_of P y) y x (least-recurrent y) (recurrent_back (StepOf (flow P)) (flow P) x y r)) in
+      let up : least_of P x ≤ least_of P y = least-most x (least_of P y) (recurrent_on (StepOf (flow P)) (flow P) (least_of P y) y x (least-recurrent y)
+      (recurrent_back (StepOf (flow P)) (flow P) x y r)) in
       let down : least_of P y ≤ least_of P x = least-most y (least_of P x) (recurrent_on (StepOf (flow P)) (flow P) (least_of P x) x y (least-recurrent x) r) in
       omega arith
 

@@ -3,24 +3,22 @@ use Rattle.std.proofs.Common.{◌≡◌, ◌≢◌, ◌⊎◌, inl, inr, ℕ, su
 use Rattle.std.specs.Prelude.{Contains, ◌↔◌, not, nat_lt, slice_index}
 use Rattle.std.proofs.lemmas.Bool.{cases_eq, cases_lt, eqb-true, eq-eqb, ne_eqb, lt-ltb, le-ltb, and_from, or_left, or_right, not_from_false}
 use Rattle.std.proofs.lemmas.List.Elements.{All-contains}
-use Rattle.conley_transitions.specs.Field.{StepOf, AreRecurrent}
+use Rattle.conley_walk.specs.Walk.{AreRecurrent}
+use Rattle.conley_transitions.specs.Flow.{StepOf}
 use Rattle.conley_transitions.specs.Morse.{set_at, IsAt}
 use Rattle.conley_transitions.proofs.EssentialLemmas.{recurrent_back, recurrent_on}
-use Rattle.conley_walk.proofs.ContainsLemmas.{Contains-first}
-use Rattle.conley_certificate.specs.Tests.{count_below, first_pass, has}
+use Rattle.conley_lists.proofs.ContainsLemmas.{Contains-first}
+use Rattle.conley_lists.specs.Lists.{is_listed}
+use Rattle.conley_lists.proofs.TestLemmas.{same_tests}
+use Rattle.conley_certificate.specs.Tests.{count_below, first_pass}
 use Rattle.conley_certificate.specs.Problem.{Problem, IsProblem, cell_count, part_at, flow}
 use Rattle.conley_certificate_file.specs.Certificate.{Certificate, Fits}
 use Rattle.conley_certificate.specs.Certificate.{set_count, first_cell}
 use Rattle.conley_certificate.specs.Reach.{recurs, least_of, has_two_parts}
 use Rattle.conley_certificate.specs.Values.{place_of, is_wanted, wanted_place}
-use Rattle.conley_certificate.proofs.TestLemmas.{true_or_false, never, both, either, not-is_true, cond-true, cond-false, any_below-at, any_below-some, has-Contains, Contains-has, first_pass-is, first_pass-at, first_pass-none, count_below-more, count_below-grows, count_below-ascending}
+use Rattle.conley_certificate.proofs.TestLemmas.{true_or_false, never, both, either, not-is_true, cond-true, cond-false, any_below-at, any_below-some, is_listed-Contains, Contains-is_listed, first_pass-is, first_pass-at, first_pass-none, count_below-more, count_below-grows, count_below-ascending}
 use Rattle.conley_certificate.proofs.FitsLemmas.{cells_fit, one_set}
 use Rattle.conley_certificate.proofs.ReachLemmas.{recurs-AreRecurrent, AreRecurrent-recurs, reached_cell, least-recurrent, least-same, same-least}
-
-pub same_tests : (a b : Bool) → (a ≡ true → b ≡ true) → (b ≡ true → a ≡ true) → a ≡ b
-same_tests true b there back = sym (there refl)
-same_tests false true there back = back refl
-same_tests false false there back = refl
 
 pub first_contained : (xs : List ℕ) → xs ≢ [] → Contains xs (slice_index xs 0)
 first_contained [] some = absurd (some refl)
@@ -44,20 +42,23 @@ module _ (P : Problem) (ok : IsProblem P) (C : Certificate) (fits : Fits P.scala
 
   -- place_of
   abbrev in_set : ℕ → ℕ → Bool
-  in_set x i = has (set_at C.morse i) x
+  in_set x i = is_listed (set_at C.morse i) x
 
   pub place-at : (x i : ℕ) → IsAt C.morse x i → place_of C x ≡ suc i
   place-at x i at =
-      let same : first_pass (set_count C) (in_set x) ≡ i = first_pass-at (set_count C) (in_set x) i at.0 (Contains-has (set_at C.morse i) x at.1) (λ j less. elim (true_or_false (in_set x j)) [
-        | inl found ↦ (let e : j ≡ i = one_set P ok C fits j i x (omega (arith, at.0), has-Contains (set_at C.morse j) x found) at in absurd (omega arith))
+      let same : first_pass (set_count C) (in_set x) ≡ i = first_pass-at (set_count C) (in_set x) i at.0 (Contains-is_listed (set_at C.morse i) x at.1)
+      (λ j less. elim (true_or_false (in_set x j)) [
+        | inl found ↦ (let e : j ≡ i = one_set P ok C fits j i x (omega (arith, at.0), is_listed-Contains (set_at C.morse j) x found) at in
+            absurd (omega arith))
         | inr missed ↦ missed
       ]) in
-      cond-true (nat_lt (first_pass (set_count C) (in_set x)) (set_count C)) (suc (first_pass (set_count C) (in_set x))) 0 (lt-ltb _ _ (omega (arith, at.0, same))) ∙ ap suc same
+      cond-true (nat_lt (first_pass (set_count C) (in_set x)) (set_count C)) (suc (first_pass (set_count C) (in_set x))) 0
+      (lt-ltb _ _ (omega (arith, at.0, same))) ∙ ap suc same
 
   pub place-nowhere : (x : ℕ) → ((i : ℕ) → ¬ IsAt C.morse x i) → place_of C x ≡ 0
   place-nowhere x nowhere =
       let same : first_pass (set_count C) (in_set x) ≡ set_count C = first_pass-none (set_count C) (in_set x) (λ j less. elim (true_or_false (in_set x j)) [
-        | inl found ↦ absurd (nowhere j (less, has-Contains (set_at C.morse j) x found))
+        | inl found ↦ absurd (nowhere j (less, is_listed-Contains (set_at C.morse j) x found))
         | inr missed ↦ missed
       ]) in
       cond-false (nat_lt (first_pass (set_count C) (in_set x)) (set_count C)) (suc (first_pass (set_count C) (in_set x))) 0 (le-ltb _ _ (omega (arith, same)))
@@ -67,8 +68,15 @@ module _ (P : Problem) (ok : IsProblem P) (C : Certificate) (fits : Fits P.scala
   somewhere x =
       let is = first_pass-is (set_count C) (in_set x) in
       elim (cases_lt (first_pass (set_count C) (in_set x)) (set_count C)) [
-        | inl less ↦ inl (first_pass (set_count C) (in_set x), (less, has-Contains (set_at C.morse (first_pass (set_count C) (in_set x))) x (is.passes less)))
-        | inr end ↦ inr (λ i at. never (in_set x i) (Contains-has (set_at C.morse i) x at.1) (is.before i (omega (arith, at.0))))
+        | inl less ↦ inl (
+          first_pass (set_count C) (in_set x),
+          (
+            less,
+            is_listed-Contains (set_at C.morse (first_pass (set_count C) (in_set x))) x
+                (is.passes less),
+          ),
+        )
+        | inr end ↦ inr (λ i at. never (in_set x i) (Contains-is_listed (set_at C.morse i) x at.1) (is.before i (omega (arith, at.0))))
       ]
 
   pub place-some : (x : ℕ) → place_of C x ≢ 0 → (i : ℕ) × IsAt C.morse x i
@@ -92,16 +100,19 @@ module _ (P : Problem) (ok : IsProblem P) (C : Certificate) (fits : Fits P.scala
       let test : ℕ → Bool = λ u. recurs P y u && not (part_at P u == part_at P y) in
       elim (cases_eq (part_at P z) (part_at P y)) [
         | inr differ ↦ any_below-at (cell_count P) test z z_below
-            (and_from (recurs P y z) (not (part_at P z == part_at P y)) (AreRecurrent-recurs P ok y z (recur_on y x z (recur_back x y r) xz)) (not_from_false (part_at P z == part_at P y) (ne_eqb _ _ differ)))
+            (and_from (recurs P y z) (not (part_at P z == part_at P y)) (AreRecurrent-recurs P ok y z (recur_on y x z (recur_back x y r) xz))
+            (not_from_false (part_at P z == part_at P y) (ne_eqb _ _ differ)))
         | inl same ↦ any_below-at (cell_count P) test x x_below
             (and_from (recurs P y x) (not (part_at P x == part_at P y)) (AreRecurrent-recurs P ok y x (recur_back x y r))
-            (not_from_false (part_at P x == part_at P y) (ne_eqb _ _ (λ e. never (part_at P z == part_at P x) (eq-eqb _ _ (same ∙ sym e)) (not-is_true (part_at P z == part_at P x) parts.1)))))
+            (not_from_false (part_at P x == part_at P y) (ne_eqb _ _ (λ e. never (part_at P z == part_at P x) (eq-eqb _ _ (same ∙ sym e))
+            (not-is_true (part_at P z == part_at P x) parts.1)))))
       ]
 
   pub wanted_there : (x y : ℕ) → Recurrent x y → is_wanted P C x ≡ true → is_wanted P C y ≡ true
   wanted_there x y r wanted = elim (either (has_two_parts P x) (not (place_of C (least_of P x) == 0)) wanted) [
     | inl two ↦ or_left (has_two_parts P y) (not (place_of C (least_of P y) == 0)) (two_parts-same x y r two)
-    | inr placed ↦ or_right (has_two_parts P y) (not (place_of C (least_of P y) == 0)) (subst (λ z. not (place_of C z == 0) ≡ true) (least-same P ok x y r) placed)
+    | inr placed ↦ or_right (has_two_parts P y) (not (place_of C (least_of P y) == 0)) (subst (λ z. not (place_of C z == 0) ≡ true) (least-same P ok x y r)
+        placed)
   ]
 
   pub wanted-same : (x y : ℕ) → Recurrent x y → is_wanted P C x ≡ is_wanted P C y
@@ -187,7 +198,8 @@ module _ (P : Problem) (ok : IsProblem P) (C : Certificate) (fits : Fits P.scala
 
     least_cell-wanted : (i : ℕ) → i < set_count C → begins (least_cell i) ≡ true
     unfolding least_cell
-    least_cell-wanted i below = least_begins (first_cell C i) ((are.wanted (first_cell C i) (at_cell (first_cell C i) i (first_at i below))).0 (i, first_at i below))
+    least_cell-wanted i below = least_begins (first_cell C i) ((are.wanted (first_cell C i) (at_cell (first_cell C i) i (first_at i below))).0
+        (i, first_at i below))
 
     least_cell-only : (i y : ℕ) → i < set_count C → y < least_cell i → y < cell_count P → begins y ≡ true → (j : ℕ) × ((j < i) × (least_cell j ≡ y))
     least_cell-only i y below less cell begin =

@@ -2,8 +2,9 @@
 --     generators_in P C x k        how many generators of dimension k have their grade in the class of x
 --     GeneratorsAreCounted P C     they are as many as the Conley numbers of the class say; so a class without a generator has zeros alone
 use Rattle.std.specs.Prelude.{◌≡◌, ◌↔◌, ◌<◌, ◌==◌, ◌&&◌, ℕ, List, Contains, slice_index}
+use Rattle.conley_walk.specs.Walk.{AreRecurrent}
 use Rattle.conley_lefschetz.specs.Conley.{AreConleyNumbers}
-use Rattle.conley_transitions.specs.Field.{StepOf, AreRecurrent}
+use Rattle.conley_transitions.specs.Flow.{StepOf}
 use Rattle.conley_certificate.specs.Tests.{count_below}
 use Rattle.conley_certificate.specs.Problem.{Problem, cell_count, flow}
 use Rattle.conley_certificate_file.specs.Certificate.{Certificate}

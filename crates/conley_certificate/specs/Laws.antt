@@ -15,14 +15,14 @@ use Rattle.conley_certificate.specs.declared.reason.Reason.{Reason}
 use Rattle.conley_certificate.specs.Problem.{Problem, cell_count, dim_at}
 use Rattle.conley_certificate.specs.Certificate.{set_count, generator_count, set_of, dim_of, base_of, index_at}
 use Rattle.conley_certificate.specs.Reach.{reaches}
-use Rattle.conley_certificate.specs.Values.{place_of, wanted_place, is_listed, is_cover, is_one_part, generators_at, is_named, number_of}
+use Rattle.conley_certificate.specs.Values.{place_of, wanted_place, is_listed_pair, is_cover, is_one_part, generators_at, is_named, number_of}
 use Rattle.conley_certificate.specs.Places.{Law, first_failing, equal_law, entry_law}
 
 abbrev pub sets_law : Problem → Certificate → Law
 sets_law P C = equal_law 1 false (cell_count P) 1 (λ x column. place_of C x) (λ x column. wanted_place P C x)
 
 abbrev pub order_law : Problem → Certificate → Law
-order_law P C = equal_law 2 false (set_count C) (set_count C) (λ p q. number_of (is_listed C p q)) (λ p q. number_of (is_cover P C p q))
+order_law P C = equal_law 2 false (set_count C) (set_count C) (λ p q. number_of (is_listed_pair C p q)) (λ p q. number_of (is_cover P C p q))
 
 -- column 0: the set's number is below the number of sets; column 1: the dimension is below the levels
 abbrev pub generator_law : Problem → Certificate → Law

@@ -5,11 +5,12 @@
 --     least_of P x         the least cell of the class of x
 --     has_two_parts P x    the class of x has two or more parts
 use Rattle.std.specs.Prelude.{ℕ, Bool, ◌==◌, ◌||◌, ◌&&◌, not, nat_lt, [], slice_index_or}
-use Rattle.conley_certificate.specs.Tests.{any_below, first_pass, has, leads}
+use Rattle.conley_lists.specs.Lists.{is_listed}
+use Rattle.conley_certificate.specs.Tests.{any_below, first_pass, leads}
 use Rattle.conley_certificate.specs.Problem.{Problem, cell_count, part_at}
 
 abbrev pub is_step : Problem → ℕ → ℕ → Bool
-is_step P x y = has (slice_index_or P.complex.faces x []) y || (nat_lt x (cell_count P) && (nat_lt y (cell_count P) && (part_at P x == part_at P y)))
+is_step P x y = is_listed (slice_index_or P.complex.faces x []) y || (nat_lt x (cell_count P) && (nat_lt y (cell_count P) && (part_at P x == part_at P y)))
 
 abbrev pub reaches : Problem → ℕ → ℕ → Bool
 reaches P = leads (is_step P) (cell_count P)

@@ -7,4 +7,3 @@ pub mod Told
 pub mod Reading
 pub mod Text
 pub mod Making
-pub mod MatricesMeaning

@@ -1,9 +1,9 @@
 //! The cells of the sets by their labels.
 
-ghost use Rattle.std.specs.Prelude.{◌≡◌, ◌++◌, ◌∷◌, [], ℕ, Bool, false, true, length, map, IfOk, OnOk, IfSome, IfNone, IsErrOf, slice_index_or, slice_set};
-ghost use Rattle.conley_walk.specs.Lists.{items_of};
+ghost use Rattle.std.specs.Prelude.{◌≡◌, ◌++◌, ◌∷◌, [], ℕ, false, true, length, map, IfOk, OnOk, IfSome, IfNone, IsErrOf};
+ghost use Rattle.conley_json.specs.Meaning.{texts};
+ghost use Rattle.conley_lists.specs.Lists.{items_of};
 ghost use Rattle.conley_lefschetz.specs.Listing.{bytes_of};
-ghost use Rattle.conley_certificate_file.specs.FileMeaning.{texts};
 ghost use Rattle.conley_certificate_file.specs.Certificate.{AreNamed};
 ghost use Rattle.conley_certificate_file.specs.Refusals.{IsBadSet};
 ghost use Rattle.conley_certificate_file.specs.Making.{IsFirstItem, ReadsSet, IsBadAlone};

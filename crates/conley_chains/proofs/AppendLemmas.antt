@@ -28,7 +28,8 @@ pub record IsAppendedSoFar (F : Arithmetic) (a : List (ℕ × ℕ)) (by : ℕ) (
   pub same : (place : ℕ) → coefficient new place ≡ F.add (coefficient a place) (F.mul by (coefficient (take j b) place))
   pub before : (i : ℕ) → j ≤ i → i < length b → All (λ e. e.0 < (get_or b i (0, 0)).0) new
 
-module _ {F : Arithmetic} (laws : IsField F) (a : List (ℕ × ℕ)) (by : ℕ) (b : List (ℕ × ℕ)) (chain : IsChain b) (beyond : All (λ e. e.0 < first_place b) a) where
+module _ {F : Arithmetic} (laws : IsField F) (a : List (ℕ × ℕ)) (by : ℕ) (b : List (ℕ × ℕ)) (chain : IsChain b)
+    (beyond : All (λ e. e.0 < first_place b) a) where
   pub appended_start : HasCodes F a → IsAppendedSoFar F a by b 0 a
   appended_start codes = record {
     codes = codes;
@@ -66,8 +67,10 @@ module _ {F : Arithmetic} (laws : IsField F) (a : List (ℕ × ℕ)) (by : ℕ) 
           All-weaker (λ (x : ℕ × ℕ). x.0 ≤ e.0) (λ (x : ℕ × ℕ). x.0 < (get_or b i (0, 0)).0) (λ x h. omega arith) new puts.places;
     }
 
-  pub appended_end : (j : ℕ) (new : List (ℕ × ℕ)) → IsAppendedSoFar F a by b j new → length b ≤ j → (place : ℕ) → coefficient new place ≡ F.add (coefficient a place) (F.mul by (coefficient b place))
-  appended_end j new so_far all place = so_far.same place ∙ ap (λ (es : List (ℕ × ℕ)). F.add (coefficient a place) (F.mul by (coefficient es place))) (take_all j b all)
+  pub appended_end : (j : ℕ) (new : List (ℕ × ℕ)) → IsAppendedSoFar F a by b j new → length b ≤ j → (place : ℕ)
+      → coefficient new place ≡ F.add (coefficient a place) (F.mul by (coefficient b place))
+  appended_end j new so_far all place = so_far.same place ∙ ap (λ (es : List (ℕ × ℕ)). F.add (coefficient a place) (F.mul by (coefficient es place)))
+      (take_all j b all)
 
 -- where nothing stands before a place, the first place is not before it
 pub first_place-from : (es : List (ℕ × ℕ)) (p : ℕ) → IsChain es → p ≤ 2 ^ 32 → ((q : ℕ) → q < p → coefficient es q ≡ 0) → p ≤ first_place es
@@ -96,10 +99,12 @@ module _ {F : Arithmetic} (laws : IsField F) (a : List (ℕ × ℕ)) (by : ℕ) 
           ∙ ap (λ (t : ℕ). F.add 0 (F.mul by t)) (coefficient-lower b q (λ k d within. (let h = first_place-least b k d b_chain within in omega arith)))
           ∙ ap (F.add 0) (sums.mul-zero laws by) ∙ sums.add_zero_zero laws
 
-  pub cut-sum : HasCodes F a → HasCodes F sum → (new : List (ℕ × ℕ)) → ((q : ℕ) → coefficient new q ≡ F.add (coefficient (take index a) q) (F.mul 1 (coefficient sum q)))
+  pub cut-sum : HasCodes F a → HasCodes F sum → (new : List (ℕ × ℕ)) → ((q : ℕ) → coefficient new q ≡ F.add (coefficient (take index a) q)
+      (F.mul 1 (coefficient sum q)))
       → (q : ℕ) → coefficient new q ≡ F.add (coefficient a q) (F.mul by (coefficient b q))
   cut-sum a_codes sum_codes new made q =
       made q
-      ∙ ap (F.add (coefficient (take index a) q)) (laws.mul_comm 1 (coefficient sum q) ∙ laws.mul_one (coefficient sum q) (coefficient-below laws sum q sum_codes) ∙ is q)
+      ∙ ap (F.add (coefficient (take index a) q)) (laws.mul_comm 1 (coefficient sum q) ∙ laws.mul_one (coefficient sum q)
+      (coefficient-below laws sum q sum_codes) ∙ is q)
       ∙ sym (laws.add_assoc (coefficient (take index a) q) (coefficient (drop index a) q) (F.mul by (coefficient b q)))
       ∙ ap (λ (t : ℕ). F.add t (F.mul by (coefficient b q))) (sym (coefficient-halves laws index a q a_chain a_codes))

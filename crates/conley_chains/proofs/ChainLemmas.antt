@@ -60,7 +60,8 @@ pub first_place-drop : (es : List (ℕ × ℕ)) (i : ℕ) (e : ℕ × ℕ) → i
 first_place-drop es i e below read = ap first_place (drop-cons es i e below) ∙ ap (λ (x : ℕ × ℕ). x.0) (sym read)
 
 -- and lies before the next
-pub first_place-next : (es : List (ℕ × ℕ)) (i : ℕ) (e : ℕ × ℕ) → IsChain es → i < length es → e ≡ get_or es i e → e.0 < 2 ^ 32 → e.0 < first_place (drop (i + 1) es)
+pub first_place-next : (es : List (ℕ × ℕ)) (i : ℕ) (e : ℕ × ℕ) → IsChain es → i < length es → e ≡ get_or es i e → e.0 < 2 ^ 32
+    → e.0 < first_place (drop (i + 1) es)
 first_place-next es i e chain below read fits = elim (cases_lt (i + 1) (length es)) [
   | inl more ↦
       let before : (get_or es i e).0 < (get_or es (i + 1) e).0 = chain.ascending i (i + 1) e (omega arith) more in
@@ -101,7 +102,8 @@ entry_of (x ∷ es) place some = elim (cases_eq place x.0) [
 ]
 
 -- where no code stands from n on, each place is below n
-pub place_within : (es : List (ℕ × ℕ)) (n i : ℕ) (e : ℕ × ℕ) → IsChain es → ((place : ℕ) → n ≤ place → coefficient es place ≡ 0) → i < length es → e ≡ get_or es i e → e.0 < n
+pub place_within : (es : List (ℕ × ℕ)) (n i : ℕ) (e : ℕ × ℕ) → IsChain es → ((place : ℕ) → n ≤ place → coefficient es place ≡ 0) → i < length es
+    → e ≡ get_or es i e → e.0 < n
 place_within es n i e chain none below read = elim (cases_lt e.0 n) [
   | inl within ↦ within
   | inr beyond ↦ absurd (subst (λ (y : ℕ × ℕ). y.1 ≢ 0) (sym read) (chain.not_zero i e below) (sym (coefficient-at es i e chain below read) ∙ none e.0 beyond))
@@ -118,7 +120,8 @@ coefficient-below {F} laws (x ∷ es) place codes = elim (cases_eq place x.0) [
 
 -- nothing is kept at a place where those before an index lie before it, and the entry there, if any, beyond
 pub coefficient-between : (es : List (ℕ × ℕ)) (i place : ℕ) → IsChain es → ((k : ℕ) (d : ℕ × ℕ) → k < i → (get_or es k d).0 < place)
-    → ((k : ℕ) (d : ℕ × ℕ) → i ≤ k → k < length es → place ≤ (get_or es k d).0) → (i < length es → (d : ℕ × ℕ) → (get_or es i d).0 ≢ place) → coefficient es place ≡ 0
+    → ((k : ℕ) (d : ℕ × ℕ) → i ≤ k → k < length es → place ≤ (get_or es k d).0) → (i < length es → (d : ℕ × ℕ) → (get_or es i d).0 ≢ place)
+    → coefficient es place ≡ 0
 coefficient-between es i place chain before after apart = elim (cases_eq (coefficient es place) 0) [
   | inl none ↦ none
   | inr some ↦
@@ -164,7 +167,8 @@ places_within es n chain none k d below = place_within es n k (get_or es k d) ch
 -- a code is that of the first entries plus that of the others
 pub coefficient-halves : {F : Arithmetic} (laws : IsField F) (half : ℕ) (es : List (ℕ × ℕ)) (place : ℕ) → IsChain es → HasCodes F es
     → coefficient es place ≡ F.add (coefficient (take half es) place) (coefficient (drop half es) place)
-coefficient-halves {F} laws zero es place chain codes = sym (laws.add_comm 0 (coefficient es place) ∙ laws.add_zero (coefficient es place) (coefficient-below laws es place codes))
+coefficient-halves {F} laws zero es place chain codes = sym (laws.add_comm 0 (coefficient es place)
+    ∙ laws.add_zero (coefficient es place) (coefficient-below laws es place codes))
 coefficient-halves {F} laws (suc half) [] place chain codes = sym (sums.add_zero_zero laws)
 coefficient-halves {F} laws (suc half) (x ∷ es) place chain codes = elim (cases_eq place x.0) [
   | inl same ↦
@@ -178,4 +182,5 @@ coefficient-halves {F} laws (suc half) (x ∷ es) place chain codes = elim (case
       ∙ ap (λ (t : ℕ). F.add t (coefficient (drop half es) place)) (sym (ap (λ b. cond b x.1 (coefficient (take half es) place)) (ne_eqb place x.0 other)))
 ] where
   after : (k : ℕ) (d : ℕ × ℕ) → k < length (drop half es) → place ≡ x.0 → place < (get_or (drop half es) k d).0
-  after k d below same = (let h : x.0 < (get_or es (half + k) d).0 = chain.ascending 0 (suc (half + k)) d (omega arith) (omega (arith, length-drop {A = ℕ × ℕ})) in rw (get_or-drop half es k d) (omega arith))
+  after k d below same = (let h : x.0 < (get_or es (half + k) d).0 = chain.ascending 0 (suc (half + k)) d (omega arith)
+      (omega (arith, length-drop {A = ℕ × ℕ})) in rw (get_or-drop half es k d) (omega arith))

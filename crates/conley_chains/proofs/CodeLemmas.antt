@@ -39,12 +39,14 @@ module _ (row column : ℕ) where
       ∙ code_at-none es (All-tail (λ (x : ℕ × ℕ × ℕ). IsAt row column x → ⊥) e es none)
 
   -- all entries that stand there have one code: that is the code, or none stands there
-  code_at-only : (es : List (ℕ × ℕ × ℕ)) (v : ℕ) → All (λ e. IsAt row column e → e.2 ≡ v) es → (All (λ e. IsAt row column e → ⊥) es → v ≡ 0) → code_at es row column ≡ v
+  code_at-only : (es : List (ℕ × ℕ × ℕ)) (v : ℕ) → All (λ e. IsAt row column e → e.2 ≡ v) es → (All (λ e. IsAt row column e → ⊥) es → v ≡ 0)
+      → code_at es row column ≡ v
   code_at-only [] v only otherwise = sym (otherwise (All-nil (λ (x : ℕ × ℕ × ℕ). IsAt row column x → ⊥)))
   code_at-only (e ∷ es) v only otherwise = at_or_not row column e (code_at (e ∷ es) row column ≡ v)
       (λ here. code_at-here e es row column here ∙ All-head (λ (x : ℕ × ℕ × ℕ). IsAt row column x → x.2 ≡ v) e es only here)
       (λ apart. code_at-apart e es row column apart
-      ∙ code_at-only es v (All-tail (λ (x : ℕ × ℕ × ℕ). IsAt row column x → x.2 ≡ v) e es only) (λ none. otherwise (All-cons (λ (x : ℕ × ℕ × ℕ). IsAt row column x → ⊥) e es apart none)))
+      ∙ code_at-only es v (All-tail (λ (x : ℕ × ℕ × ℕ). IsAt row column x → x.2 ≡ v) e es only)
+      (λ none. otherwise (All-cons (λ (x : ℕ × ℕ × ℕ). IsAt row column x → ⊥) e es apart none)))
 
   -- of entries at places that differ, one that stands there has the code
   only_code : (es : List (ℕ × ℕ × ℕ)) → AllPairs (λ a b. (a.0 ≡ b.0) → (a.1 ≡ b.1) → ⊥) es → All (λ e. IsAt row column e → e.2 ≡ code_at es row column) es
@@ -57,21 +59,24 @@ module _ (row column : ℕ) where
         rest k d (omega arith) here
         ∙ sym (code_at-apart e es row column (λ first. apart 0 (suc k) d (omega arith) (omega arith) (sym first.0 ∙ here.0) (sym first.1 ∙ here.1)))
 
-  pub code_at-permutation : (xs ys : List (ℕ × ℕ × ℕ)) → IsPermutation xs ys → AllPairs (λ a b. (a.0 ≡ b.0) → (a.1 ≡ b.1) → ⊥) xs → code_at ys row column ≡ code_at xs row column
+  pub code_at-permutation : (xs ys : List (ℕ × ℕ × ℕ)) → IsPermutation xs ys → AllPairs (λ a b. (a.0 ≡ b.0) → (a.1 ≡ b.1) → ⊥) xs
+      → code_at ys row column ≡ code_at xs row column
   code_at-permutation xs ys moved apart =
       code_at-only ys (code_at xs row column)
       (All-permutation (λ (x : ℕ × ℕ × ℕ). IsAt row column x → x.2 ≡ code_at xs row column) xs ys moved (only_code xs apart))
       (λ none. code_at-none xs (All-permutation (λ (x : ℕ × ℕ × ℕ). IsAt row column x → ⊥) ys xs (IsPermutation-sym xs ys moved) none))
 
   -- entries of other columns first
-  pub code_at-skip : (ps qs : List Placed) → All (λ p. column ≢ p.column) ps → code_at (map triple_of (ps ++ qs)) row column ≡ code_at (map triple_of qs) row column
+  pub code_at-skip : (ps qs : List Placed) → All (λ p. column ≢ p.column) ps → code_at (map triple_of (ps ++ qs)) row column ≡ code_at (map triple_of qs) row
+      column
   code_at-skip [] qs other = refl
   code_at-skip (p ∷ ps) qs other =
       code_at-apart (triple_of p) (map triple_of (ps ++ qs)) row column (λ here. All-head (λ (x : Placed). column ≢ x.column) p ps other here.1)
       ∙ code_at-skip ps qs (All-tail (λ (x : Placed). column ≢ x.column) p ps other)
 
   -- entries of the column, and then of others
-  pub code_at-run : (ps qs : List Placed) → All (λ p. column ≡ p.column) ps → All (λ p. column ≢ p.column) qs → code_at (map triple_of (ps ++ qs)) row column ≡ coefficient (map pair_of ps) row
+  pub code_at-run : (ps qs : List Placed) → All (λ p. column ≡ p.column) ps → All (λ p. column ≢ p.column) qs
+      → code_at (map triple_of (ps ++ qs)) row column ≡ coefficient (map pair_of ps) row
   code_at-run [] [] own other = refl
   code_at-run [] (q ∷ qs) own other =
       code_at-apart (triple_of q) (map triple_of qs) row column (λ here. All-head (λ (x : Placed). column ≢ x.column) q qs other here.1)
@@ -92,7 +97,8 @@ pub code_at-pairs : (es : List (ℕ × ℕ)) (place : ℕ) → code_at (map (λ 
 code_at-pairs [] place = refl
 code_at-pairs (e ∷ es) place = elim (cases_eq place e.0) [
   | inl same ↦
-      code_at-here (e.0, 0, e.1) (map (λ (x : ℕ × ℕ). (x.0, 0, x.1)) es) place 0 (same, refl) ∙ sym (ap (λ b. cond b e.1 (coefficient es place)) (eq-eqb place e.0 same))
+      code_at-here (e.0, 0, e.1) (map (λ (x : ℕ × ℕ). (x.0, 0, x.1)) es) place 0 (same, refl)
+      ∙ sym (ap (λ b. cond b e.1 (coefficient es place)) (eq-eqb place e.0 same))
   | inr apart ↦
       code_at-apart (e.0, 0, e.1) (map (λ (x : ℕ × ℕ). (x.0, 0, x.1)) es) place 0 (λ here. apart here.0) ∙ code_at-pairs es place
       ∙ sym (ap (λ b. cond b e.1 (coefficient es place)) (ne_eqb place e.0 apart))

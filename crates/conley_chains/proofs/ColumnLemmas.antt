@@ -47,11 +47,13 @@ module _ {F : Arithmetic} (rows : ℕ) (wanted : Entries) where
       → IsBuiltSoFar F rows wanted (i + 1) (columns ++ new ∷ [])
   built_more i columns new so_far codes same end = record {
     count = length-append columns (new ∷ []) ∙ ap (λ (n : ℕ). n + 1) so_far.count;
-    keeps_rows = All-push (λ (es : List (ℕ × ℕ)). (row : ℕ) → rows ≤ row → coefficient es row ≡ 0) columns new so_far.keeps_rows (λ row beyond. same row ∙ end row beyond);
+    keeps_rows = All-push (λ (es : List (ℕ × ℕ)). (row : ℕ) → rows ≤ row → coefficient es row ≡ 0) columns new so_far.keeps_rows
+        (λ row beyond. same row ∙ end row beyond);
     codes = All-push (HasCodes F) columns new so_far.codes codes;
     same = λ row column below. elim (cases_eq column i) [
       | inl last ↦
-          ap (λ (es : List (ℕ × ℕ)). coefficient es row) (ap (λ (k : ℕ). get_or (columns ++ new ∷ []) k []) (last ∙ sym so_far.count) ∙ get_or-append_seam columns new [] [])
+          ap (λ (es : List (ℕ × ℕ)). coefficient es row) (ap (λ (k : ℕ). get_or (columns ++ new ∷ []) k []) (last ∙ sym so_far.count)
+          ∙ get_or-append_seam columns new [] [])
           ∙ same row ∙ ap (λ (k : ℕ). wanted row k) (sym last)
       | inr before ↦
           ap (λ (es : List (ℕ × ℕ)). coefficient es row) (get_or_append_left columns (new ∷ []) [] column (let c = so_far.count in omega arith))
@@ -60,7 +62,8 @@ module _ {F : Arithmetic} (rows : ℕ) (wanted : Entries) where
   }
 
   -- all columns
-  pub built_end : (i n : ℕ) (columns : List (List (ℕ × ℕ))) → IsBuiltSoFar F rows wanted i columns → i ≡ n → ((row column : ℕ) → n ≤ column → wanted row column ≡ 0)
+  pub built_end : (i n : ℕ) (columns : List (List (ℕ × ℕ))) → IsBuiltSoFar F rows wanted i columns → i ≡ n
+      → ((row column : ℕ) → n ≤ column → wanted row column ≡ 0)
       → (row column : ℕ) → coefficient (get_or columns column []) row ≡ wanted row column
   built_end i n columns so_far all end row column = elim (cases_lt column i) [
     | inl below ↦ so_far.same row column below
@@ -69,11 +72,13 @@ module _ {F : Arithmetic} (rows : ℕ) (wanted : Entries) where
         ∙ sym (end row column (omega arith))
   ]
 
-  pub built_table : (i n : ℕ) (columns : List (List (ℕ × ℕ))) → IsBuiltSoFar F rows wanted i columns → i ≡ n → IsTable F rows n (record { rows = rows; columns = columns })
+  pub built_table : (i n : ℕ) (columns : List (List (ℕ × ℕ))) → IsBuiltSoFar F rows wanted i columns → i ≡ n
+      → IsTable F rows n (record { rows = rows; columns = columns })
   built_table i n columns so_far all = record { rows = refl; columns = so_far.count ∙ all; codes = so_far.codes; keeps_rows = so_far.keeps_rows }
 
 -- nothing stands beyond the rows of any column
-pub column-no_row : (rows : ℕ) (columns : List (List (ℕ × ℕ))) (column row : ℕ) → KeepsRows rows columns → rows ≤ row → coefficient (get_or columns column []) row ≡ 0
+pub column-no_row : (rows : ℕ) (columns : List (List (ℕ × ℕ))) (column row : ℕ) → KeepsRows rows columns → rows ≤ row
+    → coefficient (get_or columns column []) row ≡ 0
 column-no_row rows columns column row keeps beyond = elim (cases_lt column (length columns)) [
   | inl below ↦ keeps column [] below row beyond
   | inr end ↦ ap (λ (es : List (ℕ × ℕ)). coefficient es row) (get_or-eq_default columns [] end)

@@ -46,8 +46,10 @@ or-neither true b h = cc
 or-neither false b h = (refl, h)
 
 -- what placed entries are, one by one
-each-placed : (P : Placed → Type 0) (n : ℕ) (e : ℕ → ℕ × ℕ × ℕ) (ps : List Placed) → ArePlaced n e ps → ((k : ℕ) → k < length ps → P (placed_as k (e k))) → All P ps
-each-placed P n e ps placed each k d below = subst P (sym (get_or_default ps k d (record { column = 0; row = 0; number = 0; code = 0 }) below ∙ placed.each k below)) (each k below)
+each-placed : (P : Placed → Type 0) (n : ℕ) (e : ℕ → ℕ × ℕ × ℕ) (ps : List Placed) → ArePlaced n e ps → ((k : ℕ) → k < length ps → P (placed_as k (e k)))
+    → All P ps
+each-placed P n e ps placed each k d below = subst P (sym (get_or_default ps k d (record { column = 0; row = 0; number = 0; code = 0 }) below
+    ∙ placed.each k below)) (each k below)
 
 -- places that differ, as triples
 triples-apart : (ps : List Placed) → AreApart ps (length ps) → AllPairs (λ a b. (a.0 ≡ b.0) → (a.1 ≡ b.1) → ⊥) (map triple_of ps)
@@ -62,8 +64,10 @@ triples-apart ps apart i j d less below rows columns =
     )
 
 -- sorting moves no code
-pub code_at-sorted : (ps ss : List Placed) (row column : ℕ) → IsPermutation ps ss → AreApart ps (length ps) → code_at (map triple_of ss) row column ≡ code_at (map triple_of ps) row column
-code_at-sorted ps ss row column moved apart = code_at-permutation row column (map triple_of ps) (map triple_of ss) (IsPermutation-map triple_of ps ss moved) (triples-apart ps apart)
+pub code_at-sorted : (ps ss : List Placed) (row column : ℕ) → IsPermutation ps ss → AreApart ps (length ps)
+    → code_at (map triple_of ss) row column ≡ code_at (map triple_of ps) row column
+code_at-sorted ps ss row column moved apart = code_at-permutation row column (map triple_of ps) (map triple_of ss) (IsPermutation-map triple_of ps ss moved)
+    (triples-apart ps apart)
 
 -- all of a list was placed
 pub triples-placed : (es : List (ℕ × ℕ × ℕ)) (ps : List Placed) → ArePlaced (length es) (triple_at es) ps → length ps ≡ length es → map triple_of ps ≡ es
@@ -75,31 +79,38 @@ triples-placed es ps placed all =
 pairs-placed : (es : List (ℕ × ℕ)) (ps : List Placed) → ArePlaced (length es) (λ k. ((pair_at es k).0, 0, (pair_at es k).1)) ps → length ps ≡ length es
     → map triple_of ps ≡ map (λ (e : ℕ × ℕ). (e.0, 0, e.1)) es
 pairs-placed es ps placed all =
-    ext_get_or (0, 0, 0) (map triple_of ps) (map (λ (e : ℕ × ℕ). (e.0, 0, e.1)) es) (length-map ps triple_of ∙ all ∙ sym (length-map es (λ (e : ℕ × ℕ). (e.0, 0, e.1)))) (λ i below.
+    ext_get_or (0, 0, 0) (map triple_of ps) (map (λ (e : ℕ × ℕ). (e.0, 0, e.1)) es) (length-map ps triple_of ∙ all
+    ∙ sym (length-map es (λ (e : ℕ × ℕ). (e.0, 0, e.1)))) (λ i below.
     let within : i < length ps = omega (arith, length-map ps triple_of) in
     get_or-map triple_of ps i (record { column = 0; row = 0; number = 0; code = 0 }) (0, 0, 0) within ∙ ap triple_of (placed.each i within)
     ∙ sym (get_or-map (λ (e : ℕ × ℕ). (e.0, 0, e.1)) es i (0, 0) (0, 0, 0) (omega arith)))
 
 -- a chain's entries
 module _ (order : ℕ) (es : List (ℕ × ℕ)) (ps ss : List Placed) (placed : ArePlaced (length es) (λ k. ((pair_at es k).0, 0, (pair_at es k).1)) ps)
-    (fine : IsFaultless (own_fault_at order es) (length ps)) (moved : IsPermutation ps ss) (in_order : AllPairs IsInOrder ss) (apart : AreApart ps (length ps)) where
+    (fine : IsFaultless (own_fault_at order es) (length ps)) (moved : IsPermutation ps ss) (in_order : AllPairs IsInOrder ss)
+    (apart : AreApart ps (length ps)) where
   own_column : All (λ p. p.column ≡ 0) ss
   own_column = All-permutation (λ (p : Placed). p.column ≡ 0) ps ss moved (each-placed (λ (p : Placed). p.column ≡ 0) _ _ ps placed (λ k below. refl))
 
   pub pairs-IsChain : IsChain (map pair_of ss)
   pairs-IsChain = run-IsChain ss 0 own_column in_order
       (λ i j d less below one. sorted_apart ps ss moved (numbered-placed _ _ ps placed) in_order apart i j less below (at_default i j d less below one))
-      (All-permutation (λ (p : Placed). p.code ≢ 0) ps ss moved (each-placed (λ (p : Placed). p.code ≢ 0) _ _ ps placed (λ k below. (fine-code k (pair_at es k).1 _ (fine k below)).1)))
+      (All-permutation (λ (p : Placed). p.code ≢ 0) ps ss moved (each-placed (λ (p : Placed). p.code ≢ 0) _ _ ps placed
+      (λ k below. (fine-code k (pair_at es k).1 _ (fine k below)).1)))
     where
       at_default : (i j : ℕ) (d : Placed) → i < j → j < length ss → IsOnePlace (get_or ss i d) (get_or ss j d) → IsOnePlace (placed_at ss i) (placed_at ss j)
       at_default i j d less below one =
           let former = get_or_default ss i (record { column = 0; row = 0; number = 0; code = 0 }) d (omega arith) in
-          let latter = get_or_default ss j (record { column = 0; row = 0; number = 0; code = 0 }) d below in
-          (ap (λ (p : Placed). p.column) former ∙ one.0 ∙ sym (ap (λ (p : Placed). p.column) latter), ap (λ (p : Placed). p.row) former ∙ one.1 ∙ sym (ap (λ (p : Placed). p.row) latter))
+          let latter = get_or_default ss j (record { column = 0; row = 0; number = 0; code = 0 }) d below in (
+            ap (λ (p : Placed). p.column) former ∙ one.0 ∙ sym (ap (λ (p : Placed). p.column) latter),
+            ap (λ (p : Placed). p.row) former ∙ one.1
+                ∙ sym (ap (λ (p : Placed). p.row) latter),
+          )
 
   pub pairs-codes : All (λ e. e.1 < order) (map pair_of ss)
   pairs-codes = All-map (λ (e : ℕ × ℕ). e.1 < order) pair_of ss (All-permutation (λ (p : Placed). p.code < order) ps ss moved
-      (each-placed (λ (p : Placed). p.code < order) _ _ ps placed (λ k below. below-if order (pair_at es k).1 (fine-code k (pair_at es k).1 _ (fine k below)).0)))
+      (each-placed (λ (p : Placed). p.code < order) _ _ ps placed (λ k below. below-if order (pair_at es k).1
+      (fine-code k (pair_at es k).1 _ (fine k below)).0)))
 
   pub pairs-coefficient : length ps ≡ length es → (place : ℕ) → coefficient (map pair_of ss) place ≡ coefficient es place
   pairs-coefficient all place =
@@ -114,26 +125,31 @@ module _ (order : ℕ) (es : List (ℕ × ℕ)) (ps ss : List Placed) (placed : 
 
 -- a matrix's entries
 module _ (rows columns order : ℕ) (es : List (ℕ × ℕ × ℕ)) (ps ss : List Placed) (placed : ArePlaced (length es) (triple_at es) ps)
-    (fine : IsFaultless (own_fault_within rows columns order es) (length ps)) (moved : IsPermutation ps ss) (in_order : AllPairs IsInOrder ss) (apart : AreApart ps (length ps)) where
+    (fine : IsFaultless (own_fault_within rows columns order es) (length ps)) (moved : IsPermutation ps ss) (in_order : AllPairs IsInOrder ss)
+    (apart : AreApart ps (length ps)) where
   pub triples-AreApart : AreApart ss (length ss)
   triples-AreApart = sorted_apart ps ss moved (numbered-placed _ _ ps placed) in_order apart
 
   pub triples-not_zero : All (λ p. p.code ≢ 0) ss
-  triples-not_zero = All-permutation (λ (p : Placed). p.code ≢ 0) ps ss moved (each-placed (λ (p : Placed). p.code ≢ 0) _ _ ps placed (λ k below. (fine-code k (triple_at es k).2 _ (fine k below)).1))
+  triples-not_zero = All-permutation (λ (p : Placed). p.code ≢ 0) ps ss moved (each-placed (λ (p : Placed). p.code ≢ 0) _ _ ps placed
+      (λ k below. (fine-code k (triple_at es k).2 _ (fine k below)).1))
 
   inside : (k : ℕ) → k < length ps → ((triple_at es k).0 < rows) × ((triple_at es k).1 < columns) × ((triple_at es k).2 < order)
   inside k below =
-      let first = or-neither (nat_le rows (triple_at es k).0 || nat_le columns (triple_at es k).1) (nat_le order (triple_at es k).2) (fine-code k (triple_at es k).2 _ (fine k below)).0 in
+      let first = or-neither (nat_le rows (triple_at es k).0 || nat_le columns (triple_at es k).1) (nat_le order (triple_at es k).2)
+      (fine-code k (triple_at es k).2 _ (fine k below)).0 in
       let second = or-neither (nat_le rows (triple_at es k).0) (nat_le columns (triple_at es k).1) first.0 in
       (below-if rows _ second.0, below-if columns _ second.1, below-if order _ first.1)
 
   pub triples-codes : All (λ p. p.code < order) ss
-  triples-codes = All-permutation (λ (p : Placed). p.code < order) ps ss moved (each-placed (λ (p : Placed). p.code < order) _ _ ps placed (λ k below. (inside k below).2))
+  triples-codes = All-permutation (λ (p : Placed). p.code < order) ps ss moved (each-placed (λ (p : Placed). p.code < order) _ _ ps placed
+      (λ k below. (inside k below).2))
 
   -- where all of the list was placed
   module _ (all : length ps ≡ length es) where
     pub triples-code : (row column : ℕ) → code_at (map triple_of ss) row column ≡ code_at es row column
-    triples-code row column = code_at-sorted ps ss row column moved apart ∙ ap (λ (xs : List (ℕ × ℕ × ℕ)). code_at xs row column) (triples-placed es ps placed all)
+    triples-code row column = code_at-sorted ps ss row column moved apart ∙ ap (λ (xs : List (ℕ × ℕ × ℕ)). code_at xs row column)
+        (triples-placed es ps placed all)
 
     pub triples-row_end : (row column : ℕ) → rows ≤ row → code_at es row column ≡ 0
     triples-row_end row column end = code_at-none row column es (λ k d below here. (
@@ -152,7 +168,8 @@ module _ (rows columns order : ℕ) (es : List (ℕ × ℕ × ℕ)) (ps ss : Lis
         (same : (row k : ℕ) → k < columns → coefficient (get_or kept k []) row ≡ code_at (map triple_of ss) row k) where
       pub kept-KeepsRows : KeepsRows rows kept
       kept-KeepsRows k d below row end =
-          ap (λ (c : List (ℕ × ℕ)). coefficient c row) (get_or_default kept k d [] below) ∙ same row k (omega arith) ∙ triples-code row k ∙ triples-row_end row k end
+          ap (λ (c : List (ℕ × ℕ)). coefficient c row) (get_or_default kept k d [] below) ∙ same row k (omega arith) ∙ triples-code row k
+          ∙ triples-row_end row k end
 
       pub kept-code : (row column : ℕ) → coefficient (get_or kept column []) row ≡ code_at es row column
       kept-code row column = elim (cases_lt column columns) [

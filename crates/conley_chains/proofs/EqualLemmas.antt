@@ -36,7 +36,8 @@ same_coefficients (x ∷ a) (y ∷ b) a_chain b_chain same = elim (cases_lt x.0 
         let codes : x.1 ≡ y.1 = sym (coefficient-first x a) ∙ same x.0 ∙ ap (coefficient (y ∷ b)) (sym level) ∙ coefficient-first y b in
         let heads : x ≡ y = ap (λ (p : ℕ). (p, x.1)) (sym level) ∙ ap (λ (c : ℕ). (y.0, c)) codes in
         let rests : a ≡ b = same_coefficients a b (IsChain-tail x a a_chain) (IsChain-tail y b b_chain) (λ place. elim (cases_eq place x.0) [
-          | inl here ↦ coefficient-lower a place (rest_after x a a_chain place (omega arith)) ∙ sym (coefficient-lower b place (rest_after y b b_chain place (omega arith)))
+          | inl here ↦ coefficient-lower a place (rest_after x a a_chain place (omega arith))
+              ∙ sym (coefficient-lower b place (rest_after y b b_chain place (omega arith)))
           | inr apart ↦ sym (coefficient-rest x a place apart) ∙ same place ∙ coefficient-rest y b place (λ e. apart (e ∙ level))
         ]) in
         ap (λ (p : ℕ × ℕ). p ∷ a) heads ∙ ap (λ (es : List (ℕ × ℕ)). y ∷ es) rests

@@ -50,11 +50,14 @@ in_order-trans a b c first second = record {
 }
 
 -- a sorted list is in order
-in_order-far : (ps : List Placed) → IsSorted placed_cmp ps → (d : Placed) (gap i : ℕ) → i + suc gap < length ps → IsInOrder (get_or ps i d) (get_or ps (i + suc gap) d)
-in_order-far ps sorted d zero i within = subst (λ (k : ℕ). IsInOrder (get_or ps i d) (get_or ps k d)) (omega arith) (in_order-one _ _ (sorted i d (omega arith) (omega arith)))
+in_order-far : (ps : List Placed) → IsSorted placed_cmp ps → (d : Placed) (gap i : ℕ) → i + suc gap < length ps
+    → IsInOrder (get_or ps i d) (get_or ps (i + suc gap) d)
+in_order-far ps sorted d zero i within = subst (λ (k : ℕ). IsInOrder (get_or ps i d) (get_or ps k d)) (omega arith)
+    (in_order-one _ _ (sorted i d (omega arith) (omega arith)))
 in_order-far ps sorted d (suc gap) i within =
     in_order-trans _ _ _ (in_order-far ps sorted d gap i (omega arith))
-    (subst (λ (k : ℕ). IsInOrder (get_or ps (i + suc gap) d) (get_or ps k d)) (omega arith) (in_order-one _ _ (sorted (i + suc gap) d (omega arith) (omega arith))))
+    (subst (λ (k : ℕ). IsInOrder (get_or ps (i + suc gap) d) (get_or ps k d)) (omega arith)
+    (in_order-one _ _ (sorted (i + suc gap) d (omega arith) (omega arith))))
 
 pub in_order-sorted : (ps : List Placed) → IsSorted placed_cmp ps → AllPairs IsInOrder ps
 in_order-sorted ps sorted i j d less within =
@@ -63,7 +66,8 @@ in_order-sorted ps sorted i j d less within =
 -- the least repeat of the neighbours below k
 pub record IsLeastBelow (ps : List Placed) (k : ℕ) (least : Option ℕ) : Type 0 where
   pub none : least ≡ None → (j : ℕ) → j + 1 < k → ¬ IsOnePlace (placed_at ps j) (placed_at ps (j + 1))
-  pub found : (n : ℕ) → least ≡ Some n → (j : ℕ) × ((j + 1 < k) × (j + 1 < length ps) × IsOnePlace (placed_at ps j) (placed_at ps (j + 1)) × ((placed_at ps (j + 1)).number ≡ n))
+  pub found : (n : ℕ) → least ≡ Some n → (j : ℕ) × ((j + 1 < k) × (j + 1 < length ps) × IsOnePlace (placed_at ps j) (placed_at ps (j + 1))
+      × ((placed_at ps (j + 1)).number ≡ n))
   pub at_most : (n : ℕ) → least ≡ Some n → (j : ℕ) → j + 1 < k → IsOnePlace (placed_at ps j) (placed_at ps (j + 1)) → n ≤ (placed_at ps (j + 1)).number
 
 pub least_start : (ps : List Placed) → IsLeastBelow ps 1 None
@@ -74,7 +78,8 @@ least_start ps = record {
 }
 
 -- neighbours at two places
-pub least_apart : (ps : List Placed) (k : ℕ) (least : Option ℕ) → IsLeastBelow ps k least → 1 ≤ k → ¬ IsOnePlace (placed_at ps (k - 1)) (placed_at ps k) → IsLeastBelow ps (k + 1) least
+pub least_apart : (ps : List Placed) (k : ℕ) (least : Option ℕ) → IsLeastBelow ps k least → 1 ≤ k → ¬ IsOnePlace (placed_at ps (k - 1)) (placed_at ps k)
+    → IsLeastBelow ps (k + 1) least
 least_apart ps k least so_far some apart = record {
   none = λ e j below. elim (cases_eq (j + 1) k) [
     | inl last ↦ λ one. apart (last_pair j last one)
@@ -91,13 +96,15 @@ least_apart ps k least so_far some apart = record {
       subst (λ (x : ℕ). IsOnePlace (placed_at ps x) (placed_at ps k)) (omega arith) (subst (λ (x : ℕ). IsOnePlace (placed_at ps j) (placed_at ps x)) last one)
 
 -- neighbours at one
-pub least_more : (ps : List Placed) (k : ℕ) (least : Option ℕ) → IsLeastBelow ps k least → 1 ≤ k → k < length ps → IsOnePlace (placed_at ps (k - 1)) (placed_at ps k)
+pub least_more : (ps : List Placed) (k : ℕ) (least : Option ℕ) → IsLeastBelow ps k least → 1 ≤ k → k < length ps
+    → IsOnePlace (placed_at ps (k - 1)) (placed_at ps k)
     → IsLeastBelow ps (k + 1) (Some (least_of least (placed_at ps k).number))
 least_more ps k least so_far some inside one = record {
   none = λ e. cc;
   found = λ n e. found least n so_far e;
   at_most = λ n e j below pair. elim (cases_eq (j + 1) k) [
-    | inl last ↦ (let m : n ≡ least_of least (placed_at ps k).number = cc in let s = least_of-most least (placed_at ps k).number in let at = ap (λ (x : ℕ). (placed_at ps x).number) last in omega arith)
+    | inl last ↦ (let m : n ≡ least_of least (placed_at ps k).number = cc in let s = least_of-most least (placed_at ps k).number in let at =
+        ap (λ (x : ℕ). (placed_at ps x).number) last in omega arith)
     | inr other ↦ below_old least n so_far e j (omega arith) pair
   ];
 } where
@@ -105,14 +112,24 @@ least_more ps k least so_far some inside one = record {
   least_of-most None m = omega arith
   least_of-most (Some l) m = omega arith
 
-  here : (j : ℕ) × ((j + 1 < k + 1) × (j + 1 < length ps) × IsOnePlace (placed_at ps j) (placed_at ps (j + 1)) × ((placed_at ps (j + 1)).number ≡ (placed_at ps k).number))
-  here = (k - 1, (omega arith, omega arith, subst (λ (x : ℕ). IsOnePlace (placed_at ps (k - 1)) (placed_at ps x)) (omega arith) one, ap (λ (x : ℕ). (placed_at ps x).number) (let h : k - 1 + 1 ≡ k = omega arith in h)))
+  here : (j : ℕ) × ((j + 1 < k + 1) × (j + 1 < length ps) × IsOnePlace (placed_at ps j) (placed_at ps (j + 1))
+      × ((placed_at ps (j + 1)).number ≡ (placed_at ps k).number))
+  here = (
+    k - 1,
+    (
+      omega arith,
+      omega arith,
+      subst (λ (x : ℕ). IsOnePlace (placed_at ps (k - 1)) (placed_at ps x)) (omega arith) one,
+      ap (λ (x : ℕ). (placed_at ps x).number) (let h : k - 1 + 1 ≡ k = omega arith in h),
+    ),
+  )
 
   found : (o : Option ℕ) (n : ℕ) → IsLeastBelow ps k o → Some (least_of o (placed_at ps k).number) ≡ Some n
       → (j : ℕ) × ((j + 1 < k + 1) × (j + 1 < length ps) × IsOnePlace (placed_at ps j) (placed_at ps (j + 1)) × ((placed_at ps (j + 1)).number ≡ n))
   found None n old e = (here.0, (here.1.0, here.1.1, here.1.2, here.1.3 ∙ (let f : (placed_at ps k).number ≡ n = cc in f)))
   found (Some l) n old e = elim (cases_lt l (placed_at ps k).number) [
-    | inl less ↦ (let f = old.found l refl in let b : f.0 + 1 < k = f.1.0 in let m : min l (placed_at ps k).number ≡ n = cc in (f.0, (omega arith, f.1.1, f.1.2, f.1.3 ∙ omega arith)))
+    | inl less ↦ (let f = old.found l refl in let b : f.0 + 1 < k = f.1.0 in let m : min l (placed_at ps k).number ≡ n = cc in
+        (f.0, (omega arith, f.1.1, f.1.2, f.1.3 ∙ omega arith)))
     | inr more ↦ (let m : min l (placed_at ps k).number ≡ n = cc in (here.0, (here.1.0, here.1.1, here.1.2, here.1.3 ∙ omega arith)))
   ]
 
@@ -121,7 +138,8 @@ least_more ps k least so_far some inside one = record {
   below_old None n old e j below pair = absurd (old.none refl j below pair)
   below_old (Some l) n old e j below pair = (let h = old.at_most l refl j below pair in let m : min l (placed_at ps k).number ≡ n = cc in omega arith)
 
-module _ (ps ss : List Placed) (moved : IsPermutation ps ss) (numbered : (k : ℕ) → k < length ps → (placed_at ps k).number ≡ k) (order : AllPairs IsInOrder ss) where
+module _ (ps ss : List Placed) (moved : IsPermutation ps ss) (numbered : (k : ℕ) → k < length ps → (placed_at ps k).number ≡ k)
+    (order : AllPairs IsInOrder ss) where
   size : length ss ≡ length ps
   size = length_permutation ps ss moved
 
@@ -131,7 +149,8 @@ module _ (ps ss : List Placed) (moved : IsPermutation ps ss) (numbered : (k : �
   -- each sorted entry is the one that its number names
   pub sorted_from : (a : ℕ) → a < length ss → ((placed_at ss a).number < length ps) × (placed_at ss a ≡ placed_at ps (placed_at ss a).number)
   sorted_from a below =
-      let here = Contains-permutation ss ps (placed_at ss a) (IsPermutation-sym ps ss moved) (Contains-get_or ss a (record { column = 0; row = 0; number = 0; code = 0 }) below) in
+      let here = Contains-permutation ss ps (placed_at ss a) (IsPermutation-sym ps ss moved)
+      (Contains-get_or ss a (record { column = 0; row = 0; number = 0; code = 0 }) below) in
       let within : here.0 < length ps = here.1 in
       let is : placed_at ps here.0 ≡ placed_at ss a = get_or_default ps here.0 _ _ within ∙ here.2 in
       let number : (placed_at ss a).number ≡ here.0 = ap (λ (p : Placed). p.number) (sym is) ∙ numbered here.0 within in
@@ -151,7 +170,8 @@ module _ (ps ss : List Placed) (moved : IsPermutation ps ss) (numbered : (k : �
       let x : (get_or ps i d).number ≡ i = ap (λ (p : Placed). p.number) (get_or_default ps i d _ (omega arith)) ∙ numbered i (omega arith) in
       let y : (get_or ps j d).number ≡ j = ap (λ (p : Placed). p.number) (get_or_default ps j d _ j_below) ∙ numbered j j_below in
       omega (arith, e))))) in
-      (let no : true ≡ false = sym (eq-eqb _ _ same) ∙ apart_from_distinct test ss a b (record { column = 0; row = 0; number = 0; code = 0 }) distinct less within in cc)
+      (let no : true ≡ false = sym (eq-eqb _ _ same) ∙ apart_from_distinct test ss a b (record { column = 0; row = 0; number = 0; code = 0 }) distinct less
+      within in cc)
     where
       flips : (x y : ℕ) → (x == y) ≡ (y == x)
       flips x y = elim (cases_eq x y) [
@@ -162,17 +182,23 @@ module _ (ps ss : List Placed) (moved : IsPermutation ps ss) (numbered : (k : �
   -- two at one place have one neighbour at that place
   neighbour : (a b : ℕ) → a < b → b < length ss → IsOnePlace (placed_at ss a) (placed_at ss b) → IsOnePlace (placed_at ss (b - 1)) (placed_at ss (b - 1 + 1))
   neighbour a b less within one = elim (cases_eq a (b - 1)) [
-    | inl last ↦ subst (λ (x : ℕ). IsOnePlace (placed_at ss (b - 1)) (placed_at ss x)) (omega arith) (subst (λ (x : ℕ). IsOnePlace (placed_at ss x) (placed_at ss b)) last one)
+    | inl last ↦ subst (λ (x : ℕ). IsOnePlace (placed_at ss (b - 1)) (placed_at ss x)) (omega arith)
+        (subst (λ (x : ℕ). IsOnePlace (placed_at ss x) (placed_at ss b)) last one)
     | inr other ↦
         let low = order a (b - 1) (record { column = 0; row = 0; number = 0; code = 0 }) (omega arith) (omega arith) in
         let high = order (b - 1) b (record { column = 0; row = 0; number = 0; code = 0 }) (omega arith) within in
         let columns : (placed_at ss (b - 1)).column ≡ (placed_at ss b).column = (let l = low.columns in let h = high.columns in omega (arith, one.0)) in
-        let rows : (placed_at ss (b - 1)).row ≡ (placed_at ss b).row = (let l = low.rows (one.0 ∙ sym columns) in let h = high.rows columns in omega (arith, one.1)) in
+        let rows : (placed_at ss (b - 1)).row ≡ (placed_at ss b).row = (let l = low.rows (one.0 ∙ sym columns) in let h = high.rows columns in
+        omega (arith, one.1)) in
         subst (λ (x : ℕ). IsOnePlace (placed_at ss (b - 1)) (placed_at ss x)) (omega arith) (columns, rows)
   ]
 
   one_place : (x y x' y' : Placed) → x ≡ x' → y ≡ y' → IsOnePlace x y → IsOnePlace x' y'
-  one_place x y x' y' e f one = (sym (ap (λ (p : Placed). p.column) e) ∙ one.0 ∙ ap (λ (p : Placed). p.column) f, sym (ap (λ (p : Placed). p.row) e) ∙ one.1 ∙ ap (λ (p : Placed). p.row) f)
+  one_place x y x' y' e f one = (
+    sym (ap (λ (p : Placed). p.column) e) ∙ one.0 ∙ ap (λ (p : Placed). p.column) f,
+    sym (ap (λ (p : Placed). p.row) e) ∙ one.1
+        ∙ ap (λ (p : Placed). p.row) f,
+  )
 
   -- where the second of two at one place stands, among the sorted
   pub flagged : (j k : ℕ) → j < k → k < length ps → IsOnePlace (placed_at ps j) (placed_at ps k)
@@ -186,10 +212,18 @@ module _ (ps ss : List Placed) (moved : IsPermutation ps ss) (numbered : (k : �
       let s_number : (placed_at ss second.0).number ≡ k = ap (λ (p : Placed). p.number) second.1.1 ∙ numbered k below in
       let both : IsOnePlace (placed_at ss first.0) (placed_at ss second.0) = one_place _ _ _ _ (sym first.1.1) (sym second.1.1) one in
       elim (cases_lt first.0 second.0) [
-        | inl before ↦ (second.0 - 1, (omega arith, neighbour first.0 second.0 before s_below both, ap (λ (x : ℕ). (placed_at ss x).number) (let e : second.0 - 1 + 1 ≡ second.0 = omega arith in e) ∙ s_number))
+        | inl before ↦ (
+          second.0 - 1,
+          (
+            omega arith,
+            neighbour first.0 second.0 before s_below both,
+            ap (λ (x : ℕ). (placed_at ss x).number) (let e : second.0 - 1 + 1 ≡ second.0 = omega arith in e) ∙ s_number,
+          ),
+        )
         | inr not ↦ elim (cases_eq first.0 second.0) [
           | inl same ↦ absurd (let e = ap (λ (x : ℕ). (placed_at ss x).number) same in omega arith)
-          | inr other ↦ absurd (let h = (order second.0 first.0 (record { column = 0; row = 0; number = 0; code = 0 }) (omega arith) f_below).numbers (sym both.0) (sym both.1) in omega arith)
+          | inr other ↦ absurd (let h = (order second.0 first.0 (record { column = 0; row = 0; number = 0; code = 0 }) (omega arith) f_below).numbers
+              (sym both.0) (sym both.1) in omega arith)
         ]
       ]
 
@@ -204,7 +238,8 @@ module _ (ps ss : List Placed) (moved : IsPermutation ps ss) (numbered : (k : �
       let former = sorted_from j (omega arith) in
       let latter = sorted_from (j + 1) within in
       let i = (placed_at ss j).number in
-      let rise : i ≤ (placed_at ss (j + 1)).number = (order j (j + 1) (record { column = 0; row = 0; number = 0; code = 0 }) (omega arith) within).numbers one.0 one.1 in
+      let rise : i ≤ (placed_at ss (j + 1)).number = (order j (j + 1) (record { column = 0; row = 0; number = 0; code = 0 }) (omega arith) within).numbers
+      one.0 one.1 in
       let differ = numbers_differ j (j + 1) (omega arith) within in
       let below : i < n = omega (arith, differ) in
       record {
@@ -222,8 +257,10 @@ pub IfSome-each : (P : ℕ → Type 0) (o : Option ℕ) → ((n : ℕ) → o ≡
 IfSome-each P None each = tt
 IfSome-each P (Some n) each = each n refl
 
-module _ (ps ss : List Placed) (moved : IsPermutation ps ss) (numbered : (k : ℕ) → k < length ps → (placed_at ps k).number ≡ k) (order : AllPairs IsInOrder ss) where
-  pub repeats_none : (o : Option ℕ) → IfNone o ((j : ℕ) → j + 1 < length ss → ¬ IsOnePlace (placed_at ss j) (placed_at ss (j + 1))) → IfNone o (AreApart ps (length ps))
+module _ (ps ss : List Placed) (moved : IsPermutation ps ss) (numbered : (k : ℕ) → k < length ps → (placed_at ps k).number ≡ k)
+    (order : AllPairs IsInOrder ss) where
+  pub repeats_none : (o : Option ℕ) → IfNone o ((j : ℕ) → j + 1 < length ss → ¬ IsOnePlace (placed_at ss j) (placed_at ss (j + 1)))
+      → IfNone o (AreApart ps (length ps))
   repeats_none None none = apart_if_none ps ss moved numbered order none
   repeats_none (Some n) none = tt
 
@@ -234,7 +271,8 @@ module _ (ps ss : List Placed) (moved : IsPermutation ps ss) (numbered : (k : �
   repeats_first None found least = tt
   repeats_first (Some n) found least = first_if_least ps ss moved numbered order n found.0 found.1.0 found.1.1 found.1.2 least
 
-module _ (ps ss : List Placed) (moved : IsPermutation ps ss) (numbered : (k : ℕ) → k < length ps → (placed_at ps k).number ≡ k) (order : AllPairs IsInOrder ss) where
+module _ (ps ss : List Placed) (moved : IsPermutation ps ss) (numbered : (k : ℕ) → k < length ps → (placed_at ps k).number ≡ k)
+    (order : AllPairs IsInOrder ss) where
   -- sorted entries stand at places that differ where those before the sorting do
   pub sorted_apart : AreApart ps (length ps) → (a b : ℕ) → a < b → b < length ss → ¬ IsOnePlace (placed_at ss a) (placed_at ss b)
   sorted_apart apart a b less within one =

@@ -22,14 +22,16 @@ module _ (n : ℕ) (e : ℕ → ℕ × ℕ × ℕ) (own : ℕ → Option MatrixE
     fine = λ k below. absurd (omega arith);
   }
 
-  pub placed_more : (k : ℕ) (ps : List Placed) (p : Placed) → IsPlacedSoFar n e own k ps → k < n → p ≡ placed_as k (e k) → own k ≡ None → IsPlacedSoFar n e own (k + 1) (ps ++ p ∷ [])
+  pub placed_more : (k : ℕ) (ps : List Placed) (p : Placed) → IsPlacedSoFar n e own k ps → k < n → p ≡ placed_as k (e k) → own k ≡ None
+      → IsPlacedSoFar n e own (k + 1) (ps ++ p ∷ [])
   placed_more k ps p so_far below is none = record {
     count = length-append ps (p ∷ []) ∙ ap (λ (m : ℕ). m + 1) so_far.count;
     placed = record {
       within = (let c = so_far.count in omega (arith, length-append ps (p ∷ [])));
       each = λ j j_below. elim (cases_eq j k) [
         | inl last ↦
-            ap (λ (x : ℕ). placed_at (ps ++ p ∷ []) x) (last ∙ sym so_far.count) ∙ get_or-append_seam ps p [] (record { column = 0; row = 0; number = 0; code = 0 }) ∙ is
+            ap (λ (x : ℕ). placed_at (ps ++ p ∷ []) x) (last ∙ sym so_far.count) ∙ get_or-append_seam ps p []
+            (record { column = 0; row = 0; number = 0; code = 0 }) ∙ is
             ∙ ap (λ (x : ℕ). placed_as x (e x)) (sym last)
         | inr before ↦
             let c = so_far.count in
@@ -41,6 +43,7 @@ module _ (n : ℕ) (e : ℕ → ℕ × ℕ × ℕ) (own : ℕ → Option MatrixE
   }
 
   -- stopped at an entry that is at fault
-  pub stops_here : (k : ℕ) (ps : List Placed) (fault : Option MatrixError) → IsPlacedSoFar n e own k ps → k < n → is_some fault ≡ true → fault ≡ own k → StopsAt own n (length ps) fault
+  pub stops_here : (k : ℕ) (ps : List Placed) (fault : Option MatrixError) → IsPlacedSoFar n e own k ps → k < n → is_some fault ≡ true → fault ≡ own k
+      → StopsAt own n (length ps) fault
   stops_here k ps None so_far below some is = cc
   stops_here k ps (Some error) so_far below some is = (let c = so_far.count in omega arith, ap own so_far.count ∙ sym is)

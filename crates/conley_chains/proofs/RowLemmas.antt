@@ -14,7 +14,8 @@ pub record IsKeptSoFar (row : List ℕ) (i : ℕ) (chain : List (ℕ × ℕ)) : 
   pub before : All (λ e. e.0 < i) chain
   pub codes : (n : ℕ) → All (λ a. a < n) row → All (λ e. e.1 < n) chain
 
-pub kept_end : (row : List ℕ) (i : ℕ) (chain : List (ℕ × ℕ)) → IsKeptSoFar row i chain → length row ≤ i → (place : ℕ) → coefficient chain place ≡ get_or row place 0
+pub kept_end : (row : List ℕ) (i : ℕ) (chain : List (ℕ × ℕ)) → IsKeptSoFar row i chain → length row ≤ i → (place : ℕ)
+    → coefficient chain place ≡ get_or row place 0
 kept_end row i chain so_far all place = elim (cases_lt place i) [
   | inl less ↦ so_far.same place less
   | inr past ↦ coefficient-beyond chain i place so_far.before past ∙ sym (get_or_past row place 0 (omega arith))
@@ -44,18 +45,22 @@ module _ {F : Arithmetic} (laws : IsField F) (old : List ℕ) (by : ℕ) (es : L
   plus_more k row e so_far below read within = record {
     width = length-set row e.0 new ∙ so_far.width;
     codes = λ i d i_within. elim (cases_eq i e.0) [
-      | inl at ↦ subst (λ (t : ℕ). t < F.order) (sym (ap (λ (j : ℕ). get_or (set row e.0 new) j d) at ∙ get_or-set_same row e.0 new d within)) (laws.add_below _ _)
-      | inr other ↦ subst (λ (t : ℕ). t < F.order) (sym (get_or-set_other row e.0 i new d other)) (so_far.codes i d (omega (arith, i_within, length-set row e.0 new)))
+      | inl at ↦ subst (λ (t : ℕ). t < F.order) (sym (ap (λ (j : ℕ). get_or (set row e.0 new) j d) at ∙ get_or-set_same row e.0 new d within))
+          (laws.add_below _ _)
+      | inr other ↦ subst (λ (t : ℕ). t < F.order) (sym (get_or-set_other row e.0 i new d other))
+          (so_far.codes i d (omega (arith, i_within, length-set row e.0 new)))
     ];
     same = λ place. elim (cases_eq place e.0) [
       | inl at ↦
           ap (λ (j : ℕ). get_or (set row e.0 new) j 0) at ∙ get_or-set_same row e.0 new 0 within
           ∙ ap (λ (t : ℕ). F.add t (F.mul by e.1)) (so_far.same e.0 ∙ ap (λ (t : ℕ). F.add (get_or old e.0 0) (F.mul by t)) none_here ∙ plus_none e.0)
           ∙ ap (λ (j : ℕ). F.add (get_or old j 0) (F.mul by e.1)) (sym at)
-          ∙ ap (λ (t : ℕ). F.add (get_or old place 0) (F.mul by t)) (sym (coefficient-take_more es k place e chain below read ∙ ap (λ b. cond b e.1 (coefficient (take k es) place)) (eq-eqb place e.0 at)))
+          ∙ ap (λ (t : ℕ). F.add (get_or old place 0) (F.mul by t)) (sym (coefficient-take_more es k place e chain below read
+          ∙ ap (λ b. cond b e.1 (coefficient (take k es) place)) (eq-eqb place e.0 at)))
       | inr other ↦
           get_or-set_other row e.0 place new 0 other ∙ so_far.same place
-          ∙ ap (λ (t : ℕ). F.add (get_or old place 0) (F.mul by t)) (sym (coefficient-take_more es k place e chain below read ∙ ap (λ b. cond b e.1 (coefficient (take k es) place)) (ne_eqb place e.0 other)))
+          ∙ ap (λ (t : ℕ). F.add (get_or old place 0) (F.mul by t)) (sym (coefficient-take_more es k place e chain below read
+          ∙ ap (λ b. cond b e.1 (coefficient (take k es) place)) (ne_eqb place e.0 other)))
     ];
   } where
     new : ℕ
@@ -64,5 +69,7 @@ module _ {F : Arithmetic} (laws : IsField F) (old : List ℕ) (by : ℕ) (es : L
     none_here : coefficient (take k es) e.0 ≡ 0
     none_here = coefficient-beyond (take k es) e.0 e.0 (All-take_before es k e chain below read) (omega arith)
 
-  pub plus_end : (k : ℕ) (row : List ℕ) → IsRowPlus F old by es k row → length es ≤ k → (place : ℕ) → get_or row place 0 ≡ F.add (get_or old place 0) (F.mul by (coefficient es place))
-  plus_end k row so_far all place = so_far.same place ∙ ap (λ (xs : List (ℕ × ℕ)). F.add (get_or old place 0) (F.mul by (coefficient xs place))) (take_all k es all)
+  pub plus_end : (k : ℕ) (row : List ℕ) → IsRowPlus F old by es k row → length es ≤ k → (place : ℕ)
+      → get_or row place 0 ≡ F.add (get_or old place 0) (F.mul by (coefficient es place))
+  plus_end k row so_far all place = so_far.same place ∙ ap (λ (xs : List (ℕ × ℕ)). F.add (get_or old place 0) (F.mul by (coefficient xs place)))
+      (take_all k es all)

@@ -37,7 +37,8 @@ module _ (ss : List Placed) (order : AllPairs IsInOrder ss) (apart : AreApart ss
   nowhere = record { column = 0; row = 0; number = 0; code = 0 }
 
   -- a run of entries of one column
-  module _ (column start end : ℕ) (columns : List (List (ℕ × ℕ))) (so_far : AreRunsSoFar ss column start columns) (from : start ≤ end) (within : end ≤ length ss)
+  module _ (column start end : ℕ) (columns : List (List (ℕ × ℕ))) (so_far : AreRunsSoFar ss column start columns) (from : start ≤ end)
+      (within : end ≤ length ss)
       (own : (k : ℕ) → start ≤ k → k < end → (placed_at ss k).column ≡ column) (other : end < length ss → (placed_at ss end).column ≢ column) where
     size : length (take (end - start) (drop start ss)) ≡ end - start
     size = omega (arith, length-take (end - start) (drop start ss), length-drop start ss)
@@ -79,12 +80,14 @@ module _ (ss : List Placed) (order : AllPairs IsInOrder ss) (apart : AreApart ss
         sym (ap (λ (xs : List Placed). code_at (map triple_of xs) row column) (split_between ss start end from)
         ∙ code_at-skip row column (take start ss) (take (end - start) (drop start ss) ++ drop end ss) (λ k d below same. (
         let k_below : k < start = omega (arith, length-take start ss) in
-        let e : (get_or (take start ss) k d).column ≡ (placed_at ss k).column = ap (λ (p : Placed). p.column) (get_or-take start ss k d k_below ∙ get_or_default ss k d (record { column = 0; row = 0; number = 0; code = 0 }) (omega (arith, so_far.within))) in
+        let e : (get_or (take start ss) k d).column ≡ (placed_at ss k).column = ap (λ (p : Placed). p.column)
+        (get_or-take start ss k d k_below ∙ get_or_default ss k d (record { column = 0; row = 0; number = 0; code = 0 }) (omega (arith, so_far.within))) in
         let b = so_far.before k k_below in
         omega (arith, same)))
         ∙ code_at-run row column (take (end - start) (drop start ss)) (drop end ss) (λ k d below. sym (own_run k d below)) (λ k d below same. (
         let inside : end + k < length ss = omega (arith, length-drop end ss) in
-        let e : (get_or (drop end ss) k d).column ≡ (placed_at ss (end + k)).column = ap (λ (p : Placed). p.column) (get_or-drop end ss k d ∙ get_or_default ss (end + k) d (record { column = 0; row = 0; number = 0; code = 0 }) inside) in
+        let e : (get_or (drop end ss) k d).column ≡ (placed_at ss (end + k)).column = ap (λ (p : Placed). p.column)
+        (get_or-drop end ss k d ∙ get_or_default ss (end + k) d (record { column = 0; row = 0; number = 0; code = 0 }) inside) in
         let l = later (end + k) (omega arith) inside in
         omega (arith, same))))
 
@@ -99,12 +102,15 @@ module _ (ss : List Placed) (order : AllPairs IsInOrder ss) (apart : AreApart ss
       after = later;
       codes = λ n all. All-push (λ (es : List (ℕ × ℕ)). All (λ e. e.1 < n) es) columns new (so_far.codes n all)
           (subst (λ (es : List (ℕ × ℕ)). All (λ e. e.1 < n) es) (sym is)
-          (All-map (λ (e : ℕ × ℕ). e.1 < n) pair_of (take (end - start) (drop start ss)) (All-take (λ (p : Placed). p.code < n) (end - start) (drop start ss) (All-drop (λ (p : Placed). p.code < n) start ss all))));
+          (All-map (λ (e : ℕ × ℕ). e.1 < n) pair_of (take (end - start) (drop start ss)) (All-take (λ (p : Placed). p.code < n) (end - start) (drop start ss)
+          (All-drop (λ (p : Placed). p.code < n) start ss all))));
       same = λ row k below. elim (cases_eq k column) [
         | inl last ↦
-            ap (λ (es : List (ℕ × ℕ)). coefficient es row) (ap (λ (x : ℕ). get_or (columns ++ new ∷ []) x []) (last ∙ sym so_far.count) ∙ get_or-append_seam columns new [] [] ∙ is)
+            ap (λ (es : List (ℕ × ℕ)). coefficient es row) (ap (λ (x : ℕ). get_or (columns ++ new ∷ []) x []) (last ∙ sym so_far.count)
+            ∙ get_or-append_seam columns new [] [] ∙ is)
             ∙ run_code row ∙ ap (λ (x : ℕ). code_at (map triple_of ss) row x) (sym last)
         | inr before ↦
-            ap (λ (es : List (ℕ × ℕ)). coefficient es row) (get_or_append_left columns (new ∷ []) [] k (let c = so_far.count in omega arith)) ∙ so_far.same row k (omega arith)
+            ap (λ (es : List (ℕ × ℕ)). coefficient es row) (get_or_append_left columns (new ∷ []) [] k (let c = so_far.count in omega arith))
+            ∙ so_far.same row k (omega arith)
       ];
     }

@@ -49,7 +49,8 @@ module _ (p : ℕ) (column : List (ℕ × ℕ)) (chain : IsChain column) (old : 
     codes = λ n own all. all;
   }
 
-  module _ (k : ℕ) (rows : List (List (ℕ × ℕ))) (e : ℕ × ℕ) (so_far : IsSpreadSoFar p column old k rows) (below : k < length column) (read : e ≡ get_or column k e) where
+  module _ (k : ℕ) (rows : List (List (ℕ × ℕ))) (e : ℕ × ℕ) (so_far : IsSpreadSoFar p column old k rows) (below : k < length column)
+      (read : e ≡ get_or column k e) where
     here : get_or column k (0, 0) ≡ e
     here = get_or_default column k (0, 0) e below ∙ sym read
 
@@ -62,9 +63,11 @@ module _ (p : ℕ) (column : List (ℕ × ℕ)) (chain : IsChain column) (old : 
       count = length-set rows e.0 new ∙ so_far.count;
       same = λ row i. elim (cases_eq row e.0) [
         | inl same ↦
-            ap (λ (r : ℕ). coefficient (get_or (set rows e.0 new) r []) i) same ∙ ap (λ (es : List (ℕ × ℕ)). coefficient es i) (get_or-set_same rows e.0 new [] within)
+            ap (λ (r : ℕ). coefficient (get_or (set rows e.0 new) r []) i) same ∙ ap (λ (es : List (ℕ × ℕ)). coefficient es i)
+            (get_or-set_same rows e.0 new [] within)
             ∙ puts.at i
-            ∙ own i (coefficient (take (k + 1) column) row) (coefficient-take_more column k row e chain below read ∙ ap (λ b. cond b e.1 (coefficient (take k column) row)) (eq-eqb row e.0 same))
+            ∙ own i (coefficient (take (k + 1) column) row) (coefficient-take_more column k row e chain below read
+            ∙ ap (λ b. cond b e.1 (coefficient (take k column) row)) (eq-eqb row e.0 same))
             ∙ ap (λ (r : ℕ). cond (i == p) (coefficient (take (k + 1) column) row) (coefficient (get_or old r []) i)) (sym same)
         | inr other ↦
             ap (λ (es : List (ℕ × ℕ)). coefficient es i) (get_or-set_other rows e.0 row new [] other) ∙ so_far.same row i
@@ -73,8 +76,10 @@ module _ (p : ℕ) (column : List (ℕ × ℕ)) (chain : IsChain column) (old : 
       ];
       most = All-set (λ (es : List (ℕ × ℕ)). All (λ x. x.0 ≤ p) es) rows e.0 new puts.places so_far.most;
       waiting = λ j from j_below.
-          let later : e.0 < (get_or column j (0, 0)).0 = subst (λ (x : ℕ × ℕ). x.0 < (get_or column j (0, 0)).0) here (chain.ascending k j (0, 0) (omega arith) j_below) in
-          subst (λ (es : List (ℕ × ℕ)). All (λ x. x.0 < p) es) (sym (get_or-set_other rows e.0 (get_or column j (0, 0)).0 new [] (λ same. omega (arith, same)))) (so_far.waiting j (omega arith) j_below);
+          let later : e.0 < (get_or column j (0, 0)).0 = subst (λ (x : ℕ × ℕ). x.0 < (get_or column j (0, 0)).0) here
+          (chain.ascending k j (0, 0) (omega arith) j_below) in
+          subst (λ (es : List (ℕ × ℕ)). All (λ x. x.0 < p) es) (sym (get_or-set_other rows e.0 (get_or column j (0, 0)).0 new []
+          (λ same. omega (arith, same)))) (so_far.waiting j (omega arith) j_below);
       codes = λ n all old_all.
           let rows_all = so_far.codes n all old_all in
           All-set (λ (es : List (ℕ × ℕ)). All (λ x. x.1 < n) es) rows e.0 new
@@ -82,7 +87,8 @@ module _ (p : ℕ) (column : List (ℕ × ℕ)) (chain : IsChain column) (old : 
     } where
       own : (i t : ℕ) → t ≡ e.1 → cond (i == p) e.1 (coefficient (get_or rows e.0 []) i) ≡ cond (i == p) t (coefficient (get_or old e.0 []) i)
       own i t is = elim (cases_eq i p) [
-        | inl same ↦ ap (λ b. cond b e.1 (coefficient (get_or rows e.0 []) i)) (eq-eqb i p same) ∙ sym is ∙ sym (ap (λ b. cond b t (coefficient (get_or old e.0 []) i)) (eq-eqb i p same))
+        | inl same ↦ ap (λ b. cond b e.1 (coefficient (get_or rows e.0 []) i)) (eq-eqb i p same) ∙ sym is
+            ∙ sym (ap (λ b. cond b t (coefficient (get_or old e.0 []) i)) (eq-eqb i p same))
         | inr other ↦
             ap (λ b. cond b e.1 (coefficient (get_or rows e.0 []) i)) (ne_eqb i p other) ∙ so_far.same e.0 i
             ∙ ap (λ b. cond b (coefficient (take k column) e.0) (coefficient (get_or old e.0 []) i)) (ne_eqb i p other)
@@ -112,9 +118,12 @@ module _ (count : ℕ) (columns : List (List (ℕ × ℕ))) where
     nothing : (k : ℕ) (d : List (ℕ × ℕ)) → k < length rows → get_or rows k d ≡ []
     nothing k d within = get_or_default rows k d [] within ∙ empty k
 
-  pub transposed_more : (k : ℕ) (rows new : List (List (ℕ × ℕ))) (column : List (ℕ × ℕ)) → IsTransposedSoFar count columns k rows → k < length columns → column ≡ get_or columns k []
-      → length new ≡ length rows → ((row i : ℕ) → coefficient (get_or new row []) i ≡ cond (i == k) (coefficient column row) (coefficient (get_or rows row []) i))
-      → All (λ es. All (λ e. e.0 ≤ k) es) new → ((n : ℕ) → All (λ e. e.1 < n) column → All (λ es. All (λ e. e.1 < n) es) rows → All (λ es. All (λ e. e.1 < n) es) new)
+  pub transposed_more : (k : ℕ) (rows new : List (List (ℕ × ℕ))) (column : List (ℕ × ℕ)) → IsTransposedSoFar count columns k rows → k < length columns
+      → column ≡ get_or columns k []
+      → length new ≡ length rows → ((row i : ℕ) → coefficient (get_or new row []) i ≡ cond (i == k) (coefficient column row)
+      (coefficient (get_or rows row []) i))
+      → All (λ es. All (λ e. e.0 ≤ k) es) new → ((n : ℕ) → All (λ e. e.1 < n) column → All (λ es. All (λ e. e.1 < n) es) rows
+      → All (λ es. All (λ e. e.1 < n) es) new)
       → IsTransposedSoFar count columns (k + 1) new
   transposed_more k rows new column so_far below is length_is entries places codes = record {
     length_is = length_is ∙ so_far.length_is;
@@ -123,12 +132,14 @@ module _ (count : ℕ) (columns : List (List (ℕ × ℕ))) where
     same = λ row i. entries row i ∙ elim (cases_eq i k) [
       | inl last ↦
           ap (λ b. cond b (coefficient column row) (coefficient (get_or rows row []) i)) (eq-eqb i k last)
-          ∙ ap (λ (es : List (ℕ × ℕ)). coefficient es row) (is ∙ sym (ap (λ (j : ℕ). get_or (take (k + 1) columns) j []) last ∙ get_or-take (k + 1) columns k [] (omega arith)))
+          ∙ ap (λ (es : List (ℕ × ℕ)). coefficient es row) (is ∙ sym (ap (λ (j : ℕ). get_or (take (k + 1) columns) j []) last
+          ∙ get_or-take (k + 1) columns k [] (omega arith)))
       | inr other ↦
           ap (λ b. cond b (coefficient column row) (coefficient (get_or rows row []) i)) (ne_eqb i k other)
           ∙ so_far.same row i ∙ ap (λ (es : List (ℕ × ℕ)). coefficient es row) (elim (cases_lt i k) [
             | inl earlier ↦ get_or-take k columns i [] earlier ∙ sym (get_or-take (k + 1) columns i [] (omega arith))
-            | inr later ↦ get_or-eq_default (take k columns) [] (omega (arith, length-take k columns)) ∙ sym (get_or-eq_default (take (k + 1) columns) [] (omega (arith, length-take (k + 1) columns)))
+            | inr later ↦ get_or-eq_default (take k columns) [] (omega (arith, length-take k columns))
+                ∙ sym (get_or-eq_default (take (k + 1) columns) [] (omega (arith, length-take (k + 1) columns)))
           ])
     ];
     codes = λ n all. codes n (subst (λ (es : List (ℕ × ℕ)). All (λ e. e.1 < n) es) (sym is) (all k [] below)) (so_far.codes n all);
@@ -143,5 +154,7 @@ module _ (count : ℕ) (columns : List (List (ℕ × ℕ))) where
         (λ es low i far. coefficient-beyond es k i low (omega arith)) rows so_far.before
 
 -- the table of a transpose
-pub IsTable-transposed : {F : Arithmetic} {m n : ℕ} {a b : Table} → IsTable F m n a → ((K : Arithmetic) → AllCodes K a → IsTable K (column_count a) a.rows b) → IsTable F n m b
-IsTable-transposed {F} {m} {n} {a} {b} is turned = subst (λ (k : ℕ). IsTable F k m b) is.columns (subst (λ (k : ℕ). IsTable F (column_count a) k b) is.rows (turned F is.codes))
+pub IsTable-transposed : {F : Arithmetic} {m n : ℕ} {a b : Table} → IsTable F m n a → ((K : Arithmetic) → AllCodes K a → IsTable K (column_count a) a.rows b)
+    → IsTable F n m b
+IsTable-transposed {F} {m} {n} {a} {b} is turned = subst (λ (k : ℕ). IsTable F k m b) is.columns
+    (subst (λ (k : ℕ). IsTable F (column_count a) k b) is.rows (turned F is.codes))

@@ -1,4 +1,8 @@
 -- The faults of entries that a chain or a matrix is to be made of, each told by the number of its entry.
+--     pair_at es k, triple_at es k                  entry k of a chain's entries, of a matrix's entries
+--     stands es place, stands_in es row column      whether an entry stands at the place
+--     is_outside rows columns order e               whether an entry is beyond the rows, the columns or the codes
+--     first_of_three k out_of_range zero repeated   the first of three faults of entry k that holds
 --     fault_at order es k                           the fault of entry k of a chain's entries, if it has one
 --     fault_within rows columns order es k          the same of a matrix's entries
 --     own_fault_at, own_fault_within                the same, but for a place that stood before
@@ -18,7 +22,8 @@ no_memory e error = error ≡ NoMemory
 
 -- the first of three faults of entry k that holds: something out of range, a code that is zero, a place that stood before
 abbrev pub first_of_three : ℕ → Bool → Bool → Bool → Option MatrixError
-first_of_three k out_of_range zero repeated = if out_of_range then Some (Range k) else (if zero then Some (Zero k) else (if repeated then Some (Repeated k) else None))
+first_of_three k out_of_range zero repeated = if out_of_range then Some (Range k) else (if zero then Some (Zero k) else
+    (if repeated then Some (Repeated k) else None))
 
 -- whether an entry stands at this place
 abbrev pub stands : List (ℕ × ℕ) → ℕ → Bool

@@ -2,11 +2,12 @@
 --     Table                      rows and columns
 --     entry m row column         the code in a row and a column, else 0
 --     column_count m             the number of columns
+--     VanishesFrom n m           every code in a row or column from n on is zero
 --     AllCodes F m               every code is below the order of the field
 --     KeepsRows rows columns     nothing is kept beyond the rows
 --     AreColumns rows columns    that, and each column is a chain
 --     IsTable F m n t            m rows and n columns of codes
-use Rattle.std.specs.Prelude.{◌≡◌, ℕ, ◌≤◌, List, [], length, slice_index_or, All}
+use Rattle.std.specs.Prelude.{◌≡◌, ◌⊎◌, ℕ, ◌≤◌, List, [], length, slice_index_or, All}
 use Rattle.conley_field.specs.Arithmetic.{Arithmetic}
 use Rattle.conley_chains.specs.Chain.{coefficient, IsChain, HasCodes}
 
@@ -21,6 +22,10 @@ entry m row column = coefficient (slice_index_or m.columns column []) row
 -- the number of columns
 abbrev pub column_count : Table → ℕ
 column_count m = length m.columns
+
+-- every code in a row or column from n on is zero
+abbrev pub VanishesFrom : ℕ → Table → Type 0
+VanishesFrom n m = (x y : ℕ) → (n ≤ x) ⊎ (n ≤ y) → entry m y x ≡ 0
 
 -- every code is below the order of the field
 abbrev pub AllCodes : Arithmetic → Table → Type 0

@@ -31,7 +31,8 @@ impl Chain {
         requires codes { HasCodes (F.arithmetic field.now) self.now }
         requires within { (place : ℕ) → length row.old ≤ place → coefficient self.now place ≡ 0 }
         requires row_codes { All (λ a. a < (F.arithmetic field.now).order) row.old }
-        ensures sum { (place : ℕ) → slice_index row.new place ≡ (F.arithmetic field.now).add (slice_index row.old place) ((F.arithmetic field.now).mul by (coefficient self.now place)) }
+        ensures sum { (place : ℕ) → slice_index row.new place ≡ (F.arithmetic field.now).add (slice_index row.old place)
+            ((F.arithmetic field.now).mul by (coefficient self.now place)) }
         ensures row_codes { All (λ a. a < (F.arithmetic field.now).order) row.new }
     {
         for e in self.entries() {

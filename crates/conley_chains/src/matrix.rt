@@ -329,7 +329,8 @@ fn columns_of(alloc: Global, count: usize, placed: &[Placed]) -> Result<Vec<Chai
     requires not_zero { All (λ p. p.code ≢ 0) placed.now }
     ensures count { IfOk result (λ columns. length columns.items ≡ count) }
     ensures codes { IfOk result (λ columns. (n : ℕ) → All (λ p. p.code < n) placed.now → All (λ es. All (λ e. e.1 < n) es) columns.items) }
-    ensures entries { IfOk result (λ columns. (row k : ℕ) → k < count → coefficient (slice_index_or columns.items k []) row ≡ code_at (map triple_of placed.now) row k) }
+    ensures entries { IfOk result (λ columns. (row k : ℕ) → k < count → coefficient (slice_index_or columns.items k []) row ≡ code_at
+        (map triple_of placed.now) row k) }
 {
     let mut columns = Vec::with_capacity(alloc, count)?;
     let mut start = 0;

@@ -30,8 +30,10 @@ pub fn sort_by_place(placed: &mut Vec<Placed>) -> Option<u32>
 /// Of entries in order, the least number of one that stands where the one before it does.
 fn least_repeat(placed: &[Placed]) -> Option<u32>
     ensures none { IfNone result ((j : ℕ) → j + 1 < length placed.now → ¬ IsOnePlace (placed_at placed.now j) (placed_at placed.now (j + 1))) }
-    ensures found { IfSome result (λ n. (j : ℕ) × ((j + 1 < length placed.now) × IsOnePlace (placed_at placed.now j) (placed_at placed.now (j + 1)) × ((placed_at placed.now (j + 1)).number ≡ n))) }
-    ensures least { IfSome result (λ n. (j : ℕ) → j + 1 < length placed.now → IsOnePlace (placed_at placed.now j) (placed_at placed.now (j + 1)) → n ≤ (placed_at placed.now (j + 1)).number) }
+    ensures found { IfSome result (λ n. (j : ℕ) × ((j + 1 < length placed.now) × IsOnePlace (placed_at placed.now j) (placed_at placed.now (j + 1))
+        × ((placed_at placed.now (j + 1)).number ≡ n))) }
+    ensures least { IfSome result (λ n. (j : ℕ) → j + 1 < length placed.now → IsOnePlace (placed_at placed.now j) (placed_at placed.now (j + 1))
+        → n ≤ (placed_at placed.now (j + 1)).number) }
 {
     let mut least = None;
     for k in 1..placed.len() {

@@ -50,9 +50,11 @@ pub(crate) fn spread(rows: &mut Vec<Chain>, place: u32, column: &Chain) -> Resul
     requires before { All (λ es. All (λ e. e.0 < place) es) rows.old.items }
     requires within { All (λ e. e.0 < length rows.old.items) column.now }
     ensures count { OnOk result (length rows.new.items ≡ length rows.old.items) }
-    ensures entries { OnOk result ((row k : ℕ) → coefficient (slice_index_or rows.new.items row []) k ≡ (if k == place then coefficient column.now row else coefficient (slice_index_or rows.old.items row []) k)) }
+    ensures entries { OnOk result ((row k : ℕ) → coefficient (slice_index_or rows.new.items row []) k ≡
+        (if k == place then coefficient column.now row else coefficient (slice_index_or rows.old.items row []) k)) }
     ensures places { OnOk result (All (λ es. All (λ e. e.0 ≤ place) es) rows.new.items) }
-    ensures codes { OnOk result ((n : ℕ) → All (λ e. e.1 < n) column.now → All (λ es. All (λ e. e.1 < n) es) rows.old.items → All (λ es. All (λ e. e.1 < n) es) rows.new.items) }
+    ensures codes { OnOk result ((n : ℕ) → All (λ e. e.1 < n) column.now → All (λ es. All (λ e. e.1 < n) es) rows.old.items
+        → All (λ es. All (λ e. e.1 < n) es) rows.new.items) }
 {
     for e in column.entries() {
         rows[e.0 as usize].put(place, e.1)?;

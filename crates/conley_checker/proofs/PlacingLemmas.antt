@@ -16,7 +16,8 @@ pub record IsPlaced (P : Problem) (C : Certificate) (i : ℕ) (place : List ℕ)
   pub inside : (x j : ℕ) → j < i → IsAt C.morse x j → slice_index place x ≡ suc j
   pub outside : (x : ℕ) → ((j : ℕ) → j < i → ¬ IsAt C.morse x j) → slice_index place x ≡ 0
 
-pub placed_all : (P : Problem) (ok : IsProblem P) (C : Certificate) (fits : Fits P.scalars P.complex C) (i : ℕ) (place : List ℕ) → IsPlaced P C i place → set_count C ≤ i → ArePlaces P C place
+pub placed_all : (P : Problem) (ok : IsProblem P) (C : Certificate) (fits : Fits P.scalars P.complex C) (i : ℕ) (place : List ℕ) → IsPlaced P C i place
+    → set_count C ≤ i → ArePlaces P C place
 placed_all P ok C fits i place is all = record {
   count = is.count;
   places = λ x cell. elim (sets.somewhere P ok C fits x) [
@@ -25,8 +26,10 @@ placed_all P ok C fits i place is all = record {
   ];
 }
 
-pub placed_more : (P : Problem) (ok : IsProblem P) (C : Certificate) (fits : Fits P.scalars P.complex C) (i : ℕ) (place new cells : List ℕ) (number : ℕ) → IsPlaced P C i place → i < set_count C → cells ≡ set_at C.morse i → number ≡ suc i → length new ≡ length place →
-    ((x : ℕ) → Contains cells x → slice_index new x ≡ number) → ((x : ℕ) → ¬ Contains cells x → slice_index new x ≡ slice_index place x) → IsPlaced P C (i + 1) new
+pub placed_more : (P : Problem) (ok : IsProblem P) (C : Certificate) (fits : Fits P.scalars P.complex C) (i : ℕ) (place new cells : List ℕ) (number : ℕ)
+    → IsPlaced P C i place → i < set_count C → cells ≡ set_at C.morse i → number ≡ suc i → length new ≡ length place →
+    ((x : ℕ) → Contains cells x → slice_index new x ≡ number) → ((x : ℕ) → ¬ Contains cells x → slice_index new x ≡ slice_index place x)
+    → IsPlaced P C (i + 1) new
 placed_more P ok C fits i place new cells number is below cells_are number_is width inside outside = record {
   count = width ∙ is.count;
   inside = λ x j less at. elim (cases_eq j i) [

@@ -22,7 +22,8 @@ coefficient-kept (e ∷ es) row some = elim (cases_eq row e.0) [
       (suc found.0, (omega arith, found.1.1))
 ]
 
-module _ (test : ℕ → ℕ → Bool) (es : List (ℕ × ℕ)) (chain : IsChain es) (column i : ℕ) (passed : (k : ℕ) → k < i → test (get_or es k (0, 0)).0 column ≡ true) where
+module _ (test : ℕ → ℕ → Bool) (es : List (ℕ × ℕ)) (chain : IsChain es) (column i : ℕ) (passed : (k : ℕ) → k < i
+    → test (get_or es k (0, 0)).0 column ≡ true) where
   -- an entry before the one at i is among the first i
   earlier_passes : (bound : ℕ) → (i < length es → bound ≤ (get_or es i (0, 0)).0) → (r : ℕ) → r < bound → coefficient es r ≢ 0 → test r column ≡ true
   earlier_passes bound most r less some =
@@ -58,13 +59,16 @@ module _ (test : ℕ → ℕ → Bool) (es : List (ℕ × ℕ)) (chain : IsChain
       subst (λ n. test n column ≡ true) found.1.1 (passed found.0 (omega arith))
 
 -- the first refused entry of a column is the first failing place of the law, where no earlier column has one
-pub refusal_found : (law part : ℕ) (a : Table) (test : ℕ → ℕ → Bool) (column row code : ℕ) → column < column_count a → IsFirstRefused test (slice_index_or a.columns column []) column row code →
+pub refusal_found : (law part : ℕ) (a : Table) (test : ℕ → ℕ → Bool) (column row code : ℕ) → column < column_count a
+    → IsFirstRefused test (slice_index_or a.columns column []) column row code →
     ((r : ℕ) → a.rows ≤ r → entry a r column ≡ 0) → ((c : ℕ) → c < column → (r : ℕ) → entry a r c ≢ 0 → test r c ≡ true) →
-    Some (record { law = law; part = part; row = row; column = column; have = code; want = 0 }) ≡ first_place (entry_law law part a.rows (column_count a) (entry a) test)
+    Some (record { law = law; part = part; row = row; column = column; have = code; want = 0 }) ≡ first_place
+    (entry_law law part a.rows (column_count a) (entry a) test)
 refusal_found law part a test column row code column_below is end before =
     let some : entry a row column ≢ 0 = λ none. is.some (sym is.at ∙ none) in
     let row_below : row < a.rows = elim (cases_lt row a.rows) [ inl below ↦ below | inr beyond ↦ absurd (some (end row (omega arith))) ] in
-    sym (refused_at law part a.rows (column_count a) (entry a) test row column row_below column_below some is.refused before is.before ∙ ap (λ (h : ℕ). Some (reason h)) is.at)
+    sym (refused_at law part a.rows (column_count a) (entry a) test row column row_below column_below some is.refused before is.before
+    ∙ ap (λ (h : ℕ). Some (reason h)) is.at)
   where
     reason : ℕ → Reason
     reason h = record { law = law; part = part; row = row; column = column; have = h; want = 0 }

@@ -6,12 +6,12 @@
 --     AreListed C n lists          the first n pairs of the order, under their upper sets
 --     IsFineOrder P C p            the pairs of set p are its covers
 use Rattle.std.specs.Prelude.{◌≡◌, ◌≢◌, ◌⊎◌, ◌↔◌, ◌<◌, ◌+◌, ◌==◌, ◌&&◌, not, ℕ, Bool, false, List, [], Contains, take, length, slice_index, slice_index_or}
-use Rattle.conley_walk.specs.Lists.{ListedStep}
+use Rattle.conley_lists.specs.Lists.{ListedStep}
 use Rattle.conley_certificate_file.specs.Certificate.{Certificate}
 use Rattle.conley_certificate.specs.Tests.{count_below}
 use Rattle.conley_certificate.specs.Problem.{Problem}
 use Rattle.conley_certificate.specs.Certificate.{index_at, set_count, set_of, dim_of}
-use Rattle.conley_certificate.specs.Values.{generators_at, is_named, is_one_part, is_listed, is_cover, set_reaches}
+use Rattle.conley_certificate.specs.Values.{generators_at, is_named, is_one_part, is_listed_pair, is_cover, set_reaches}
 
 pub record AddsOne (old new : List (List ℕ)) (i k : ℕ) : Type 0 where
   pub count : length new ≡ length old
@@ -39,4 +39,4 @@ pub record AreListed (C : Certificate) (n : ℕ) (lists : List (List ℕ)) : Typ
 
 -- the pairs of set p are listed where they are covers
 abbrev pub IsFineOrder : Problem → Certificate → ℕ → Type 0
-IsFineOrder P C p = (q : ℕ) → q < set_count C → is_listed C p q ≡ is_cover P C p q
+IsFineOrder P C p = (q : ℕ) → q < set_count C → is_listed_pair C p q ≡ is_cover P C p q

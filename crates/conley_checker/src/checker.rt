@@ -25,10 +25,10 @@ use conley_certificate_file::Certificate;
 use conley_chains::NoMemory;
 use conley_field::Field;
 use conley_lefschetz::Complex;
+use conley_lists::all_numbers;
 use conley_mvf::Partition;
 use conley_order::Grading;
 use conley_transitions::transitions;
-use conley_walk::all_numbers;
 use std::alloc::{AllocError, Global};
 
 /// The set, the dimension and the first cell of each generator, and the cells.
@@ -67,7 +67,15 @@ pub(crate) fn compare_matrices<F: Field, G: Grading>(
     requires given { AreGiven (problem_of (F.arithmetic complex.now.0) complex.now.1 partition.now) (meaning_of certificate.now) }
     requires reach { IsReachTest (problem_of (F.arithmetic complex.now.0) complex.now.1 partition.now) (G.cell_count reach.now) (G.is_below reach.now) }
     requires read { AreRead (problem_of (F.arithmetic complex.now.0) complex.now.1 partition.now) (meaning_of certificate.now) read.now }
-    ensures { IfOk result (λ found. found ≡ first_failing (boundary_law (problem_of (F.arithmetic complex.now.0) complex.now.1 partition.now) (meaning_of certificate.now) ∷ phi_down (problem_of (F.arithmetic complex.now.0) complex.now.1 partition.now) (meaning_of certificate.now) ∷ psi_down (problem_of (F.arithmetic complex.now.0) complex.now.1 partition.now) (meaning_of certificate.now) ∷ gamma_down (problem_of (F.arithmetic complex.now.0) complex.now.1 partition.now) (meaning_of certificate.now) ∷ gamma2_down (problem_of (F.arithmetic complex.now.0) complex.now.1 partition.now) (meaning_of certificate.now) ∷ phi_law (problem_of (F.arithmetic complex.now.0) complex.now.1 partition.now) (meaning_of certificate.now) ∷ psi_law (problem_of (F.arithmetic complex.now.0) complex.now.1 partition.now) (meaning_of certificate.now) ∷ gamma_law (problem_of (F.arithmetic complex.now.0) complex.now.1 partition.now) (meaning_of certificate.now) ∷ gamma2_law (problem_of (F.arithmetic complex.now.0) complex.now.1 partition.now) (meaning_of certificate.now) ∷ [])) }
+    ensures { IfOk result (λ found. found ≡ first_failing (boundary_law (problem_of (F.arithmetic complex.now.0) complex.now.1 partition.now)
+        (meaning_of certificate.now) ∷ phi_down (problem_of (F.arithmetic complex.now.0) complex.now.1 partition.now) (meaning_of certificate.now) ∷ psi_down
+        (problem_of (F.arithmetic complex.now.0) complex.now.1 partition.now) (meaning_of certificate.now) ∷ gamma_down
+        (problem_of (F.arithmetic complex.now.0) complex.now.1 partition.now) (meaning_of certificate.now) ∷ gamma2_down
+        (problem_of (F.arithmetic complex.now.0) complex.now.1 partition.now) (meaning_of certificate.now) ∷ phi_law
+        (problem_of (F.arithmetic complex.now.0) complex.now.1 partition.now) (meaning_of certificate.now) ∷ psi_law
+        (problem_of (F.arithmetic complex.now.0) complex.now.1 partition.now) (meaning_of certificate.now) ∷ gamma_law
+        (problem_of (F.arithmetic complex.now.0) complex.now.1 partition.now) (meaning_of certificate.now) ∷ gamma2_law
+        (problem_of (F.arithmetic complex.now.0) complex.now.1 partition.now) (meaning_of certificate.now) ∷ [])) }
 {
     match compare_equation(alloc, complex, partition, certificate, Equation::Boundary)? {
         Some(reason) => return Ok(Some(reason)),
@@ -149,8 +157,10 @@ fn check_over<F: Field, G: Grading>(
     requires classes { AreClassNumbers (problem_of (F.arithmetic complex.now.0) complex.now.1 partition.now) class_of.now }
     requires reach { IsReachTest (problem_of (F.arithmetic complex.now.0) complex.now.1 partition.now) (G.cell_count reach.now) (G.is_below reach.now) }
     ensures accepted { OnOk result (IsAnalysis (problem_of (F.arithmetic complex.now.0) complex.now.1 partition.now) (meaning_of certificate.now)) }
-    ensures rejected { (reason : Reason) → result ≡ Err (CheckError.Rejected reason) → failing (problem_of (F.arithmetic complex.now.0) complex.now.1 partition.now) (meaning_of certificate.now) ≡ Some reason }
-    ensures sound { (reason : Reason) → result ≡ Err (CheckError.Rejected reason) → IsAnalysis (problem_of (F.arithmetic complex.now.0) complex.now.1 partition.now) (meaning_of certificate.now) → ⊥ }
+    ensures rejected { (reason : Reason) → result ≡ Err (CheckError.Rejected reason) → failing
+        (problem_of (F.arithmetic complex.now.0) complex.now.1 partition.now) (meaning_of certificate.now) ≡ Some reason }
+    ensures sound { (reason : Reason) → result ≡ Err (CheckError.Rejected reason) → IsAnalysis
+        (problem_of (F.arithmetic complex.now.0) complex.now.1 partition.now) (meaning_of certificate.now) → ⊥ }
 {
     match first_failure(alloc, complex, partition, class_of, reach, certificate)? {
         Some(reason) => Err(CheckError::Rejected(reason)),
@@ -183,8 +193,10 @@ pub fn check<F: Field>(
     requires field { IsMultivectorField complex.now.1.faces partition.now }
     requires fits { Fits (F.arithmetic complex.now.0) complex.now.1 (meaning_of certificate.now) }
     ensures accepted { OnOk result (IsAnalysis (problem_of (F.arithmetic complex.now.0) complex.now.1 partition.now) (meaning_of certificate.now)) }
-    ensures rejected { (reason : Reason) → result ≡ Err (CheckError.Rejected reason) → failing (problem_of (F.arithmetic complex.now.0) complex.now.1 partition.now) (meaning_of certificate.now) ≡ Some reason }
-    ensures refuted { (reason : Reason) → result ≡ Err (CheckError.Rejected reason) → ¬ IsAnalysis (problem_of (F.arithmetic complex.now.0) complex.now.1 partition.now) (meaning_of certificate.now) }
+    ensures rejected { (reason : Reason) → result ≡ Err (CheckError.Rejected reason) → failing
+        (problem_of (F.arithmetic complex.now.0) complex.now.1 partition.now) (meaning_of certificate.now) ≡ Some reason }
+    ensures refuted { (reason : Reason) → result ≡ Err (CheckError.Rejected reason) → ¬ IsAnalysis
+        (problem_of (F.arithmetic complex.now.0) complex.now.1 partition.now) (meaning_of certificate.now) }
 {
     let cells = complex.count();
     let sets = certificate.morse.len();
@@ -192,9 +204,9 @@ pub fn check<F: Field>(
     let levels = complex.levels();
     can_number(cells, sets, generators, levels)?;
     let faces = complex.faces();
-    let _cells_of_faces = faces.count();
+    let _order = faces.count();
     let digraph = transitions(alloc, faces, partition)?;
-    let _nodes = digraph.count();
+    let _heads = digraph.count();
     let grading = digraph.reach_rows(alloc)?;
     check_over(
         alloc,

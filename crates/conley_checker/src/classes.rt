@@ -54,7 +54,8 @@ pub(crate) fn two_parts_of<F: Field>(
     requires classes { AreClassNumbers (problem_of (F.arithmetic complex.now.0) complex.now.1 partition.now) class_of.now }
     requires leasts { AreLeasts (problem_of (F.arithmetic complex.now.0) complex.now.1 partition.now) class_of.now leasts.now }
     ensures width { IfOk result (λ two. length two.items ≡ length leasts.now) }
-    ensures two { IfOk result (λ two. (c : ℕ) → c < length leasts.now → slice_index_or two.items c false ≡ has_two_parts (problem_of (F.arithmetic complex.now.0) complex.now.1 partition.now) (slice_index leasts.now c)) }
+    ensures two { IfOk result (λ two. (c : ℕ) → c < length leasts.now → slice_index_or two.items c false ≡ has_two_parts
+        (problem_of (F.arithmetic complex.now.0) complex.now.1 partition.now) (slice_index leasts.now c)) }
 {
     let _complex = complex;
     let _certificate = certificate;
@@ -93,7 +94,8 @@ pub(crate) fn wanted_places_of<F: Field>(
     requires places { ArePlaces (problem_of (F.arithmetic complex.now.0) complex.now.1 partition.now) (meaning_of certificate.now) place.now }
     requires leasts { AreLeasts (problem_of (F.arithmetic complex.now.0) complex.now.1 partition.now) class_of.now leasts.now }
     ensures width { IfOk result (λ wanted. length wanted.items ≡ length leasts.now) }
-    ensures wanted { IfOk result (λ wanted. (c : ℕ) → c < length leasts.now → slice_index wanted.items c ≡ wanted_place (problem_of (F.arithmetic complex.now.0) complex.now.1 partition.now) (meaning_of certificate.now) (slice_index leasts.now c)) }
+    ensures wanted { IfOk result (λ wanted. (c : ℕ) → c < length leasts.now → slice_index wanted.items c ≡ wanted_place
+        (problem_of (F.arithmetic complex.now.0) complex.now.1 partition.now) (meaning_of certificate.now) (slice_index leasts.now c)) }
 {
     let two = two_parts_of(alloc, complex, partition, certificate, class_of, leasts)?;
     let mut wanted = Vec::new(alloc);
@@ -122,7 +124,8 @@ pub(crate) fn compare_sets<F: Field>(
     requires given { AreGiven (problem_of (F.arithmetic complex.now.0) complex.now.1 partition.now) (meaning_of certificate.now) }
     requires classes { AreClassNumbers (problem_of (F.arithmetic complex.now.0) complex.now.1 partition.now) class_of.now }
     requires places { ArePlaces (problem_of (F.arithmetic complex.now.0) complex.now.1 partition.now) (meaning_of certificate.now) place.now }
-    ensures { IfOk result (λ found. found ≡ first_place (sets_law (problem_of (F.arithmetic complex.now.0) complex.now.1 partition.now) (meaning_of certificate.now))) }
+    ensures { IfOk result (λ found. found ≡ first_place (sets_law (problem_of (F.arithmetic complex.now.0) complex.now.1 partition.now)
+        (meaning_of certificate.now))) }
 {
     let leasts = leasts_of(alloc, complex, partition, certificate, class_of)?;
     let wanted = wanted_places_of(

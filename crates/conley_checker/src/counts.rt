@@ -1,7 +1,7 @@
 //! How many generators name each set, counted in one pass.
 
 ghost use Rattle.std.specs.Prelude.{◌≡◌, ◌<◌, ◌^◌, ◌-◌, ℕ, false, IfOk, [], length, replicate, slice_index, slice_index_or};
-ghost use Rattle.conley_walk.specs.Lists.{items_of};
+ghost use Rattle.conley_lists.specs.Lists.{items_of};
 ghost use Rattle.conley_certificate_file.specs.CertificateMeaning.{meaning_of};
 ghost use Rattle.conley_certificate.specs.Certificate.{generator_count, set_count};
 ghost use Rattle.conley_certificate.specs.Values.{is_named};
@@ -56,7 +56,8 @@ pub(crate) fn generator_counts(
 /// For each set whether a generator names it.
 pub(crate) fn named_sets(alloc: Global, certificate: &Certificate) -> Result<Vec<bool>, NoMemory>
     ensures width { IfOk result (λ named. length named.items ≡ set_count (meaning_of certificate.now)) }
-    ensures named { IfOk result (λ named. (i : ℕ) → i < set_count (meaning_of certificate.now) → slice_index_or named.items i false ≡ is_named (meaning_of certificate.now) i) }
+    ensures named { IfOk result (λ named. (i : ℕ) → i < set_count (meaning_of certificate.now)
+        → slice_index_or named.items i false ≡ is_named (meaning_of certificate.now) i) }
 {
     let mut named = vec![in alloc; false; certificate.morse.len()]?;
     for g in 0..certificate.generators.len() {

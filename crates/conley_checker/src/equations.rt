@@ -26,7 +26,8 @@ pub(crate) fn compare_equation<F: Field>(
     equation: Equation,
 ) -> Result<Option<Reason>, NoMemory>
     requires given { AreGiven (problem_of (F.arithmetic complex.now.0) complex.now.1 partition.now) (meaning_of certificate.now) }
-    ensures { IfOk result (λ found. found ≡ first_place (law_of (problem_of (F.arithmetic complex.now.0) complex.now.1 partition.now) (meaning_of certificate.now) equation)) }
+    ensures { IfOk result (λ found. found ≡ first_place (law_of (problem_of (F.arithmetic complex.now.0) complex.now.1 partition.now)
+        (meaning_of certificate.now) equation)) }
 {
     for column in 0..column_count(complex, partition, certificate, equation) {
         let here = column as u32;

@@ -78,7 +78,8 @@ impl<'a, G: Grading> EntryTest for Strictness<'a, G> {
 
     ghost columns = { λ t. length t.bases.now };
 
-    ghost test = { λ t row column. not (slice_index t.sets.now row == slice_index t.sets.now column) && G.is_below t.reach.now (slice_index t.bases.now row) (slice_index t.bases.now column) };
+    ghost test = { λ t row column. not (slice_index t.sets.now row == slice_index t.sets.now column) && G.is_below t.reach.now (slice_index t.bases.now row)
+        (slice_index t.bases.now column) };
 
     fn passes(&self, row: u32, column: u32) -> bool {
         self.sets[row as usize] != self.sets[column as usize]

@@ -58,7 +58,8 @@ pub(crate) fn compare_generators<F: Field>(
 /// The set of each generator.
 pub(crate) fn sets_of(alloc: Global, certificate: &Certificate) -> Result<Vec<u32>, NoMemory>
     ensures count { IfOk result (λ v. length v.items ≡ generator_count (meaning_of certificate.now)) }
-    ensures sets { IfOk result (λ v. (g : ℕ) → g < generator_count (meaning_of certificate.now) → slice_index v.items g ≡ set_of (meaning_of certificate.now) g) }
+    ensures sets { IfOk result (λ v. (g : ℕ) → g < generator_count (meaning_of certificate.now)
+        → slice_index v.items g ≡ set_of (meaning_of certificate.now) g) }
 {
     let mut sets = Vec::new(alloc);
     for g in 0..certificate.generators.len() {
@@ -71,7 +72,8 @@ pub(crate) fn sets_of(alloc: Global, certificate: &Certificate) -> Result<Vec<u3
 /// The dimension of each generator.
 pub(crate) fn dims_of(alloc: Global, certificate: &Certificate) -> Result<Vec<u8>, NoMemory>
     ensures count { IfOk result (λ v. length v.items ≡ generator_count (meaning_of certificate.now)) }
-    ensures dims { IfOk result (λ v. (g : ℕ) → g < generator_count (meaning_of certificate.now) → slice_index v.items g ≡ dim_of (meaning_of certificate.now) g) }
+    ensures dims { IfOk result (λ v. (g : ℕ) → g < generator_count (meaning_of certificate.now)
+        → slice_index v.items g ≡ dim_of (meaning_of certificate.now) g) }
 {
     let mut dims = Vec::new(alloc);
     for g in 0..certificate.generators.len() {
@@ -85,7 +87,8 @@ pub(crate) fn dims_of(alloc: Global, certificate: &Certificate) -> Result<Vec<u8
 pub(crate) fn bases_of(alloc: Global, certificate: &Certificate) -> Result<Vec<u32>, NoMemory>
     requires named { GeneratorsNameSets (meaning_of certificate.now) }
     ensures count { IfOk result (λ v. length v.items ≡ generator_count (meaning_of certificate.now)) }
-    ensures bases { IfOk result (λ v. (g : ℕ) → g < generator_count (meaning_of certificate.now) → slice_index v.items g ≡ base_of (meaning_of certificate.now) g) }
+    ensures bases { IfOk result (λ v. (g : ℕ) → g < generator_count (meaning_of certificate.now)
+        → slice_index v.items g ≡ base_of (meaning_of certificate.now) g) }
 {
     let mut bases = Vec::new(alloc);
     for g in 0..certificate.generators.len() {

@@ -125,7 +125,9 @@ fn compare_row<F: Field>(
     requires counts { (k : ℕ) → k < complex.now.1.levels → slice_index counts.now k ≡ generators_at (meaning_of certificate.now) set k }
     requires named { named ≡ is_named (meaning_of certificate.now) set }
     ensures fine { IsNone result → IsFineRow (problem_of (F.arithmetic complex.now.0) complex.now.1 partition.now) (meaning_of certificate.now) set }
-    ensures fails { IfSome result (λ reason. ((r : ℕ) → r < set → IsFineRow (problem_of (F.arithmetic complex.now.0) complex.now.1 partition.now) (meaning_of certificate.now) r) → Some reason ≡ first_place (index_law (problem_of (F.arithmetic complex.now.0) complex.now.1 partition.now) (meaning_of certificate.now))) }
+    ensures fails { IfSome result (λ reason. ((r : ℕ) → r < set → IsFineRow (problem_of (F.arithmetic complex.now.0) complex.now.1 partition.now)
+        (meaning_of certificate.now) r) → Some reason ≡ first_place (index_law (problem_of (F.arithmetic complex.now.0) complex.now.1 partition.now)
+        (meaning_of certificate.now))) }
 {
     let numbers = certificate.index[set as usize].as_slice();
     match first_unequal(numbers, counts) {
@@ -165,7 +167,8 @@ pub(crate) fn compare_index<F: Field>(
 ) -> Result<Option<Reason>, NoMemory>
     requires given { AreGiven (problem_of (F.arithmetic complex.now.0) complex.now.1 partition.now) (meaning_of certificate.now) }
     requires places { ArePlaces (problem_of (F.arithmetic complex.now.0) complex.now.1 partition.now) (meaning_of certificate.now) place.now }
-    ensures { IfOk result (λ found. found ≡ first_place (index_law (problem_of (F.arithmetic complex.now.0) complex.now.1 partition.now) (meaning_of certificate.now))) }
+    ensures { IfOk result (λ found. found ≡ first_place (index_law (problem_of (F.arithmetic complex.now.0) complex.now.1 partition.now)
+        (meaning_of certificate.now))) }
 {
     let counts = generator_counts(alloc, certificate, complex.levels())?;
     let named = named_sets(alloc, certificate)?;

@@ -1,7 +1,7 @@
 //! The law of the order, by rows of bits: the pairs of each set are those of its lower sets that aren't lower than another of them.
 
 ghost use Rattle.std.specs.Prelude.{◌≡◌, ◌<◌, ◌↔◌, ℕ, All, Contains, Some, None, IfOk, IfSome, length, slice_index_or};
-ghost use Rattle.conley_walk.specs.Lists.{items_of, IsMarked};
+ghost use Rattle.conley_lists.specs.Lists.{items_of, IsMarked};
 ghost use Rattle.conley_order.specs.LowerRows.{AreLowerRows};
 ghost use Rattle.conley_certificate_file.specs.CertificateMeaning.{meaning_of};
 ghost use Rattle.conley_certificate.specs.Places.{first_place};
@@ -18,9 +18,9 @@ use conley_certificate_file::Certificate;
 use conley_chains::NoMemory;
 use conley_field::Field;
 use conley_lefschetz::Complex;
+use conley_lists::{empty_lists, put_under};
 use conley_mvf::Partition;
 use conley_order::{Grading, is_next, lower_rows, lower_still};
-use conley_walk::{empty_lists, put_under};
 use std::alloc::Global;
 
 /// The first cell of each set.
@@ -31,7 +31,8 @@ pub(crate) fn firsts_of<F: Field>(
     certificate: &Certificate,
 ) -> Result<Vec<u32>, NoMemory>
     requires given { AreGiven (problem_of (F.arithmetic complex.now.0) complex.now.1 partition.now) (meaning_of certificate.now) }
-    ensures { IfOk result (λ firsts. AreFirsts (problem_of (F.arithmetic complex.now.0) complex.now.1 partition.now) (meaning_of certificate.now) firsts.items) }
+    ensures { IfOk result (λ firsts. AreFirsts (problem_of (F.arithmetic complex.now.0) complex.now.1 partition.now) (meaning_of certificate.now)
+        firsts.items) }
 {
     let _complex = complex;
     let _partition = partition;
@@ -52,7 +53,8 @@ fn lower_sets<F: Field, G: Grading>(
 ) -> Result<Vec<Vec<u64>>, NoMemory>
     requires given { AreGiven (problem_of (F.arithmetic complex.now.0) complex.now.1 partition.now) (meaning_of certificate.now) }
     requires reach { IsReachTest (problem_of (F.arithmetic complex.now.0) complex.now.1 partition.now) (G.cell_count reach.now) (G.is_below reach.now) }
-    ensures { IfOk result (λ lower. AreLowerRows (set_lower (problem_of (F.arithmetic complex.now.0) complex.now.1 partition.now) (meaning_of certificate.now)) (set_count (meaning_of certificate.now)) (set_count (meaning_of certificate.now)) (items_of lower.items)) }
+    ensures { IfOk result (λ lower. AreLowerRows (set_lower (problem_of (F.arithmetic complex.now.0) complex.now.1 partition.now) (meaning_of certificate.now))
+        (set_count (meaning_of certificate.now)) (set_count (meaning_of certificate.now)) (items_of lower.items)) }
 {
     let firsts = firsts_of(alloc, complex, partition, certificate)?;
     let cells = firsts.as_slice();
@@ -62,7 +64,8 @@ fn lower_sets<F: Field, G: Grading>(
 
 /// The second set of each pair, under the first.
 fn listed_under(alloc: Global, certificate: &Certificate) -> Result<Vec<Vec<u32>>, NoMemory>
-    requires sets { All (λ pair. (pair.0 < set_count (meaning_of certificate.now)) × (pair.1 < set_count (meaning_of certificate.now))) (meaning_of certificate.now).order }
+    requires sets { All (λ pair. (pair.0 < set_count (meaning_of certificate.now)) × (pair.1 < set_count (meaning_of certificate.now)))
+        (meaning_of certificate.now).order }
     ensures { IfOk result (λ lists. AreListed (meaning_of certificate.now) (length (meaning_of certificate.now).order) (items_of lists.items)) }
 {
     let mut lists = empty_lists(alloc, certificate.morse.len())?;
@@ -99,10 +102,14 @@ fn compare_order_row<F: Field>(
 ) -> Result<Option<Reason>, NoMemory>
     requires given { AreGiven (problem_of (F.arithmetic complex.now.0) complex.now.1 partition.now) (meaning_of certificate.now) }
     requires listed { AreListed (meaning_of certificate.now) (length (meaning_of certificate.now).order) (items_of listed.now) }
-    requires lower { AreLowerRows (set_lower (problem_of (F.arithmetic complex.now.0) complex.now.1 partition.now) (meaning_of certificate.now)) (set_count (meaning_of certificate.now)) (set_count (meaning_of certificate.now)) (items_of lower.now) }
+    requires lower { AreLowerRows (set_lower (problem_of (F.arithmetic complex.now.0) complex.now.1 partition.now) (meaning_of certificate.now))
+        (set_count (meaning_of certificate.now)) (set_count (meaning_of certificate.now)) (items_of lower.now) }
     requires upper { p < set_count (meaning_of certificate.now) }
-    ensures fine { IfOk result (λ found. found ≡ None → IsFineOrder (problem_of (F.arithmetic complex.now.0) complex.now.1 partition.now) (meaning_of certificate.now) p) }
-    ensures fails { IfOk result (λ found. IfSome found (λ reason. ((r : ℕ) → r < p → IsFineOrder (problem_of (F.arithmetic complex.now.0) complex.now.1 partition.now) (meaning_of certificate.now) r) → Some reason ≡ first_place (order_law (problem_of (F.arithmetic complex.now.0) complex.now.1 partition.now) (meaning_of certificate.now)))) }
+    ensures fine { IfOk result (λ found. found ≡ None → IsFineOrder (problem_of (F.arithmetic complex.now.0) complex.now.1 partition.now)
+        (meaning_of certificate.now) p) }
+    ensures fails { IfOk result (λ found. IfSome found (λ reason. ((r : ℕ) → r < p → IsFineOrder
+        (problem_of (F.arithmetic complex.now.0) complex.now.1 partition.now) (meaning_of certificate.now) r)
+        → Some reason ≡ first_place (order_law (problem_of (F.arithmetic complex.now.0) complex.now.1 partition.now) (meaning_of certificate.now)))) }
 {
     let _complex = complex;
     let _partition = partition;
@@ -140,7 +147,8 @@ pub(crate) fn compare_order<F: Field, G: Grading>(
 ) -> Result<Option<Reason>, NoMemory>
     requires given { AreGiven (problem_of (F.arithmetic complex.now.0) complex.now.1 partition.now) (meaning_of certificate.now) }
     requires reach { IsReachTest (problem_of (F.arithmetic complex.now.0) complex.now.1 partition.now) (G.cell_count reach.now) (G.is_below reach.now) }
-    ensures { IfOk result (λ found. found ≡ first_place (order_law (problem_of (F.arithmetic complex.now.0) complex.now.1 partition.now) (meaning_of certificate.now))) }
+    ensures { IfOk result (λ found. found ≡ first_place (order_law (problem_of (F.arithmetic complex.now.0) complex.now.1 partition.now)
+        (meaning_of certificate.now))) }
 {
     let listed = listed_under(alloc, certificate)?;
     let lower = lower_sets(alloc, complex, partition, reach, certificate)?;

@@ -9,8 +9,8 @@ use conley_certificate_file::Certificate;
 use conley_chains::NoMemory;
 use conley_field::Field;
 use conley_lefschetz::Complex;
+use conley_lists::put_at;
 use conley_mvf::Partition;
-use conley_walk::put_at;
 use std::alloc::Global;
 
 /// For each cell 1 plus the number of its set, or 0.

@@ -66,7 +66,8 @@ fn refuse_degree(
     requires rows { matrix.now.rows ≡ length rows.now }
     requires columns { column_count matrix.now ≡ length columns.now }
     requires few { column_count matrix.now < 2 ^ 32 }
-    ensures { result ≡ first_place (entry_law 6 part matrix.now.rows (column_count matrix.now) (entry matrix.now) (λ row column. joins degree (slice_index rows.now row) (slice_index columns.now column))) }
+    ensures { result ≡ first_place (entry_law 6 part matrix.now.rows (column_count matrix.now) (entry matrix.now)
+        (λ row column. joins degree (slice_index rows.now row) (slice_index columns.now column))) }
 {
     refuse(
         6,
@@ -93,7 +94,8 @@ fn refuse_upward<G: Grading>(
     requires few { column_count matrix.now < 2 ^ 32 }
     requires rows_within { All (λ x. x < G.cell_count reach.now) rows.now }
     requires columns_within { All (λ x. x < G.cell_count reach.now) columns.now }
-    ensures { result ≡ first_place (entry_law law 0 matrix.now.rows (column_count matrix.now) (entry matrix.now) (λ row column. G.is_below reach.now (slice_index rows.now row) (slice_index columns.now column))) }
+    ensures { result ≡ first_place (entry_law law 0 matrix.now.rows (column_count matrix.now) (entry matrix.now)
+        (λ row column. G.is_below reach.now (slice_index rows.now row) (slice_index columns.now column))) }
 {
     refuse(
         law,
@@ -116,7 +118,11 @@ pub(crate) fn refuse_degrees<F: Field>(
 ) -> Option<Reason>
     requires given { AreGiven (problem_of (F.arithmetic complex.now.0) complex.now.1 partition.now) (meaning_of certificate.now) }
     requires read { AreRead (problem_of (F.arithmetic complex.now.0) complex.now.1 partition.now) (meaning_of certificate.now) read.now }
-    ensures { result ≡ first_failing (matrix_degree (problem_of (F.arithmetic complex.now.0) complex.now.1 partition.now) (meaning_of certificate.now) ∷ phi_degree (problem_of (F.arithmetic complex.now.0) complex.now.1 partition.now) (meaning_of certificate.now) ∷ psi_degree (problem_of (F.arithmetic complex.now.0) complex.now.1 partition.now) (meaning_of certificate.now) ∷ gamma_degree (problem_of (F.arithmetic complex.now.0) complex.now.1 partition.now) (meaning_of certificate.now) ∷ gamma2_degree (problem_of (F.arithmetic complex.now.0) complex.now.1 partition.now) (meaning_of certificate.now) ∷ []) }
+    ensures { result ≡ first_failing (matrix_degree (problem_of (F.arithmetic complex.now.0) complex.now.1 partition.now) (meaning_of certificate.now) ∷
+        phi_degree (problem_of (F.arithmetic complex.now.0) complex.now.1 partition.now) (meaning_of certificate.now) ∷ psi_degree
+        (problem_of (F.arithmetic complex.now.0) complex.now.1 partition.now) (meaning_of certificate.now) ∷ gamma_degree
+        (problem_of (F.arithmetic complex.now.0) complex.now.1 partition.now) (meaning_of certificate.now) ∷ gamma2_degree
+        (problem_of (F.arithmetic complex.now.0) complex.now.1 partition.now) (meaning_of certificate.now) ∷ []) }
 {
     let _complex = complex;
     let cells = complex.dims();
@@ -151,7 +157,10 @@ pub(crate) fn refuse_filters<F: Field, G: Grading>(
     requires given { AreGiven (problem_of (F.arithmetic complex.now.0) complex.now.1 partition.now) (meaning_of certificate.now) }
     requires reach { IsReachTest (problem_of (F.arithmetic complex.now.0) complex.now.1 partition.now) (G.cell_count reach.now) (G.is_below reach.now) }
     requires read { AreRead (problem_of (F.arithmetic complex.now.0) complex.now.1 partition.now) (meaning_of certificate.now) read.now }
-    ensures { result ≡ first_failing (phi_down (problem_of (F.arithmetic complex.now.0) complex.now.1 partition.now) (meaning_of certificate.now) ∷ psi_down (problem_of (F.arithmetic complex.now.0) complex.now.1 partition.now) (meaning_of certificate.now) ∷ gamma_down (problem_of (F.arithmetic complex.now.0) complex.now.1 partition.now) (meaning_of certificate.now) ∷ gamma2_down (problem_of (F.arithmetic complex.now.0) complex.now.1 partition.now) (meaning_of certificate.now) ∷ []) }
+    ensures { result ≡ first_failing (phi_down (problem_of (F.arithmetic complex.now.0) complex.now.1 partition.now) (meaning_of certificate.now) ∷ psi_down
+        (problem_of (F.arithmetic complex.now.0) complex.now.1 partition.now) (meaning_of certificate.now) ∷ gamma_down
+        (problem_of (F.arithmetic complex.now.0) complex.now.1 partition.now) (meaning_of certificate.now) ∷ gamma2_down
+        (problem_of (F.arithmetic complex.now.0) complex.now.1 partition.now) (meaning_of certificate.now) ∷ []) }
 {
     let _complex = complex;
     let _partition = partition;

@@ -5,18 +5,18 @@ use Rattle.std.proofs.lemmas.Bool.{eqb-true}
 use Rattle.std.proofs.lemmas.List.{get_or-map, length-map}
 use Rattle.std.proofs.lemmas.List.Elements.{All-cons, All-head, All-tail, All-map, All-weaker, All-nil}
 use Rattle.conley_generated.specs.Rule.{only_cells}
-use Rattle.conley_generated.specs.Making.{AreApart}
-use Rattle.conley_walk.proofs.ContainsLemmas.{Contains-first, Contains-rest}
+use Rattle.conley_lists.proofs.ContainsLemmas.{Contains-first, Contains-rest}
+use Rattle.conley_lists.specs.Lists.{AreApart}
 use Rattle.conley_generated.proofs.CellLemmas.{behind_apart, apart_cons}
 use Rattle.conley_cubical.specs.Cube.{is_wide, dim_of}
-use Rattle.conley_cubical.specs.Making.{turned, kept, faces_behind, faces_of_cube}
+use Rattle.conley_cubical.specs.Making.{turned, unturned, faces_behind, faces_of_cube}
 use Rattle.conley_cubical.proofs.SquareLaw.{wide_up, wide_down}
 
 pub cells_turned : (c : ℕ) (faces : List (List ℕ × Bool)) → only_cells (map (turned c) faces) ≡ map (λ t. c ∷ t) (only_cells faces)
 cells_turned c [] = refl
 cells_turned c (face ∷ faces) = ap (λ l. (c ∷ face.0) ∷ l) (cells_turned c faces)
 
-pub cells_kept : (c : ℕ) (faces : List (List ℕ × Bool)) → only_cells (map (kept c) faces) ≡ map (λ t. c ∷ t) (only_cells faces)
+pub cells_kept : (c : ℕ) (faces : List (List ℕ × Bool)) → only_cells (map (unturned c) faces) ≡ map (λ t. c ∷ t) (only_cells faces)
 cells_kept c [] = refl
 cells_kept c (face ∷ faces) = ap (λ l. (c ∷ face.0) ∷ l) (cells_kept c faces)
 
@@ -27,7 +27,8 @@ faces_all P c s faces true ends rest =
     All-cons P ((c + 1) ∷ s) (((c - 1) ∷ s) ∷ only_cells (map (turned c) faces)) (ends refl).0
     (All-cons P ((c - 1) ∷ s) (only_cells (map (turned c) faces)) (ends refl).1
     (subst (λ (l : List (List ℕ)). All P l) (sym (cells_turned c faces)) (All-map P (λ (t : List ℕ). c ∷ t) (only_cells faces) rest)))
-faces_all P c s faces false ends rest = subst (λ (l : List (List ℕ)). All P l) (sym (cells_kept c faces)) (All-map P (λ (t : List ℕ). c ∷ t) (only_cells faces) rest)
+faces_all P c s faces false ends rest = subst (λ (l : List (List ℕ)). All P l) (sym (cells_kept c faces))
+    (All-map P (λ (t : List ℕ). c ∷ t) (only_cells faces) rest)
 
 abbrev pub Inside : ℕ → Type 0
 Inside c = c ≤ 4000000
@@ -86,16 +87,21 @@ faces_apart (c ∷ s) = by (faces_apart s) (is_wide c) refl
         let behind : List (List ℕ) = map (λ t. c ∷ t) (only_cells (faces_of_cube s)) in
         subst (λ (l : List (List ℕ)). AreApart (((c + 1) ∷ s) ∷ ((c - 1) ∷ s) ∷ l)) (sym (cells_turned c (faces_of_cube s)))
         (apart_cons ((c + 1) ∷ s) (((c - 1) ∷ s) ∷ behind)
-        (All-cons (λ t. (c + 1) ∷ s ≢ t) ((c - 1) ∷ s) behind (λ e. let same : c + 1 ≡ c - 1 = cc in absurd (omega (arith, same))) (heads_differ (c + 1) c s (only_cells (faces_of_cube s)) (λ e. absurd (omega (arith, e)))))
-        (apart_cons ((c - 1) ∷ s) behind (heads_differ (c - 1) c s (only_cells (faces_of_cube s)) (λ e. absurd (omega (arith, e, one)))) (behind_apart c (only_cells (faces_of_cube s)) rest)))
+        (All-cons (λ t. (c + 1) ∷ s ≢ t) ((c - 1) ∷ s) behind (λ e. let same : c + 1 ≡ c - 1 = cc in absurd (omega (arith, same)))
+        (heads_differ (c + 1) c s (only_cells (faces_of_cube s)) (λ e. absurd (omega (arith, e)))))
+        (apart_cons ((c - 1) ∷ s) behind (heads_differ (c - 1) c s (only_cells (faces_of_cube s)) (λ e. absurd (omega (arith, e, one))))
+        (behind_apart c (only_cells (faces_of_cube s)) rest)))
 
 -- ---- one of the ends in place of a wide pair behind some others
 
-pub changed : (p : List ℕ) (c : ℕ) (s : List ℕ) → is_wide c ≡ true → Contains (only_cells (faces_of_cube (p ++ c ∷ s))) (p ++ (c + 1) ∷ s) × Contains (only_cells (faces_of_cube (p ++ c ∷ s))) (p ++ (c - 1) ∷ s)
-changed [] c s wide = subst (λ b. Contains (only_cells (faces_behind b c s (faces_of_cube s))) ((c + 1) ∷ s) × Contains (only_cells (faces_behind b c s (faces_of_cube s))) ((c - 1) ∷ s)) (sym wide) (
-  Contains-first ((c + 1) ∷ s) (((c - 1) ∷ s) ∷ only_cells (map (turned c) (faces_of_cube s))),
-  Contains-rest ((c + 1) ∷ s) (((c - 1) ∷ s) ∷ only_cells (map (turned c) (faces_of_cube s))) ((c - 1) ∷ s) (Contains-first ((c - 1) ∷ s) (only_cells (map (turned c) (faces_of_cube s)))),
-)
+pub changed : (p : List ℕ) (c : ℕ) (s : List ℕ) → is_wide c ≡ true → Contains (only_cells (faces_of_cube (p ++ c ∷ s))) (p ++ (c + 1) ∷ s)
+    × Contains (only_cells (faces_of_cube (p ++ c ∷ s))) (p ++ (c - 1) ∷ s)
+changed [] c s wide = subst (λ b. Contains (only_cells (faces_behind b c s (faces_of_cube s))) ((c + 1) ∷ s)
+    × Contains (only_cells (faces_behind b c s (faces_of_cube s))) ((c - 1) ∷ s)) (sym wide) (
+      Contains-first ((c + 1) ∷ s) (((c - 1) ∷ s) ∷ only_cells (map (turned c) (faces_of_cube s))),
+      Contains-rest ((c + 1) ∷ s) (((c - 1) ∷ s) ∷ only_cells (map (turned c) (faces_of_cube s))) ((c - 1) ∷ s)
+          (Contains-first ((c - 1) ∷ s) (only_cells (map (turned c) (faces_of_cube s)))),
+    )
 changed (w ∷ p) c s wide =
     let rest = changed p c s wide in
     (in_rest (is_wide w) (p ++ (c + 1) ∷ s) rest.0, in_rest (is_wide w) (p ++ (c - 1) ∷ s) rest.1)
@@ -106,9 +112,12 @@ changed (w ∷ p) c s wide =
         let lt : there.0 < length (map (λ (t : List ℕ). w ∷ t) cells) = omega (arith, n, there.1) in
         (there.0, lt, get_or-map (λ (t : List ℕ). w ∷ t) cells there.0 t (w ∷ t) there.1 ∙ ap (λ t. w ∷ t) there.2)
 
-    in_rest : (b : Bool) (t : List ℕ) → Contains (only_cells (faces_of_cube (p ++ c ∷ s))) t → Contains (only_cells (faces_behind b w (p ++ c ∷ s) (faces_of_cube (p ++ c ∷ s)))) (w ∷ t)
-    in_rest false t there = subst (λ (l : List (List ℕ)). Contains l (w ∷ t)) (sym (cells_kept w (faces_of_cube (p ++ c ∷ s)))) (mapped (only_cells (faces_of_cube (p ++ c ∷ s))) t there)
+    in_rest : (b : Bool) (t : List ℕ) → Contains (only_cells (faces_of_cube (p ++ c ∷ s))) t
+        → Contains (only_cells (faces_behind b w (p ++ c ∷ s) (faces_of_cube (p ++ c ∷ s)))) (w ∷ t)
+    in_rest false t there = subst (λ (l : List (List ℕ)). Contains l (w ∷ t)) (sym (cells_kept w (faces_of_cube (p ++ c ∷ s))))
+        (mapped (only_cells (faces_of_cube (p ++ c ∷ s))) t there)
     in_rest true t there =
         Contains-rest ((w + 1) ∷ (p ++ c ∷ s)) (((w - 1) ∷ (p ++ c ∷ s)) ∷ only_cells (map (turned w) (faces_of_cube (p ++ c ∷ s)))) (w ∷ t)
         (Contains-rest ((w - 1) ∷ (p ++ c ∷ s)) (only_cells (map (turned w) (faces_of_cube (p ++ c ∷ s)))) (w ∷ t)
-        (subst (λ (l : List (List ℕ)). Contains l (w ∷ t)) (sym (cells_turned w (faces_of_cube (p ++ c ∷ s)))) (mapped (only_cells (faces_of_cube (p ++ c ∷ s))) t there)))
+        (subst (λ (l : List (List ℕ)). Contains l (w ∷ t)) (sym (cells_turned w (faces_of_cube (p ++ c ∷ s))))
+        (mapped (only_cells (faces_of_cube (p ++ c ∷ s))) t there)))

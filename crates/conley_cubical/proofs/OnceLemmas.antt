@@ -7,7 +7,7 @@ use Rattle.conley_lefschetz.specs.Complex.{Layout}
 use Rattle.conley_generated.proofs.CellLemmas.{cell_cases}
 use Rattle.conley_generated.proofs.OnceLemmas.{cells_once, below_cases, complexes_once}
 use Rattle.conley_cubical.specs.Cube.{is_wide, dim_of, label_of}
-use Rattle.conley_cubical.specs.Cubical.{AreCubes, AreValues, ComplexIsOne}
+use Rattle.conley_cubical.specs.Cubical.{AreCubes, AreCubeValues, CubicalComplexIsOne}
 
 -- two lists of all cubes in order
 cubes_once : (cubes : List (List (ℤ × ℤ))) (cells others : List (List ℕ)) → AreCubes cubes cells → AreCubes cubes others → cells ≡ others
@@ -31,7 +31,7 @@ end_cases s t k = elim (cases_Bool (is_wide (get_or s k 0))) [
 ]
 
 -- the values of the same cubes
-values_once : (F : Arithmetic) (cells : List (List ℕ)) (a b : Layout) → AreValues F cells a.boundary → AreValues F cells b.boundary
+values_once : (F : Arithmetic) (cells : List (List ℕ)) (a b : Layout) → AreCubeValues F cells a.boundary → AreCubeValues F cells b.boundary
     → (x y : ℕ) → x < length cells → y < length cells → entry a.boundary y x ≡ entry b.boundary y x
 values_once F cells a b values values' x y lt lt' =
     elim (below_cases (IsEndAt (get_or cells x []) (get_or cells y [])) (end_cases (get_or cells x []) (get_or cells y [])) (length (get_or cells x []))) [
@@ -43,9 +43,9 @@ values_once F cells a b values values' x y lt lt' =
           values.none x y lt lt' (λ end. none end.0 end.1 (end.2, end.3)) ∙ sym (values'.none x y lt lt' (λ end. none end.0 end.1 (end.2, end.3)))
     ]
 
-pub complex_once : (F : Arithmetic) → ComplexIsOne F
+pub complex_once : (F : Arithmetic) → CubicalComplexIsOne F
 complex_once F cubes a b laws laws' is is' =
     let same : is.cells ≡ is'.cells = cubes_once cubes is.cells is'.cells is.are is'.are in
-    let values : AreValues F is.cells b.boundary = subst (λ (l : List (List ℕ)). AreValues F l b.boundary) (sym same) is'.values in
+    let values : AreCubeValues F is.cells b.boundary = subst (λ (l : List (List ℕ)). AreCubeValues F l b.boundary) (sym same) is'.values in
     complexes_once F label_of dim_of a b laws laws' is.cells is'.cells same is.labels_are is'.labels_are is.dims_are is'.dims_are
     (values_once F is.cells a b is.values values) is.values.beyond is'.values.beyond

@@ -19,7 +19,13 @@ use Rattle.conley_cubical.proofs.ValueLaw.{value_upper, value_lower, value_other
 
 pub cubes_rule : (axes : ℕ) → IsRule (IsInside axes) rule_of_cubes
 cubes_rule axes = record {
-  cells = λ s is. All-weaker (IsFacePart s) (IsInside axes) (λ t part. record { count = part.count ∙ is.count; few = is.few; some = is.some; inside = part.inside is.inside }) (only_cells (faces_of_cube s)) (faces_are_parts s);
+  cells = λ s is. All-weaker (IsFacePart s) (IsInside axes) (λ t part. record {
+    count = part.count ∙ is.count;
+    few = is.few;
+    some = is.some;
+    inside =
+        part.inside is.inside;
+  }) (only_cells (faces_of_cube s)) (faces_are_parts s);
   down = λ s is. All-weaker (IsFacePart s) (λ t. dim_of s ≡ dim_of t + 1) (λ t part. part.down) (only_cells (faces_of_cube s)) (faces_are_parts s);
   apart = λ s is. faces_apart s;
   square = λ F laws s z is. square_zero laws s z;
@@ -56,5 +62,6 @@ module _ (cubes : List (List (ℤ × ℤ))) where
     -- and there are no more
     pub no_more : ¬ AreMore cubes most
     no_more more =
-        let fits = most_cells made.cells more.some more.apart (All-weaker (IsCube cubes) (Contains made.cells) (λ s is. (made.are.all s).1 (cube_under cubes s is)) more.some more.are) in
+        let fits = most_cells made.cells more.some more.apart (All-weaker (IsCube cubes) (Contains made.cells)
+        (λ s is. (made.are.all s).1 (cube_under cubes s is)) more.some more.are) in
         absurd (omega (arith, fits, made.few, more.more))

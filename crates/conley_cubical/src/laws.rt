@@ -2,7 +2,7 @@
 
 ghost use Rattle.conley_field.specs.Arithmetic.{Arithmetic};
 ghost use Rattle.conley_cubical.specs.Fault.{FirstFaultIsOne};
-ghost use Rattle.conley_cubical.specs.Cubical.{ComplexIsOne};
+ghost use Rattle.conley_cubical.specs.Cubical.{CubicalComplexIsOne};
 
 /// At most one fault is the first: its number and its place tell the rest of it.
 pub fn first_fault_is_one()
@@ -11,5 +11,5 @@ pub fn first_fault_is_one()
 
 /// At most one complex is that of listed cubes.
 pub fn complex_of_cubes_is_one()
-    ensures { (F : Arithmetic) → ComplexIsOne F }
+    ensures { (F : Arithmetic) → CubicalComplexIsOne F }
 {}

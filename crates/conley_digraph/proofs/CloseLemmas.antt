@@ -6,8 +6,8 @@ use Rattle.std.proofs.Math.Seq.{get_or-append_seam}
 use Rattle.std.proofs.lemmas.Bool.{cases_eq, cases_lt}
 use Rattle.std.proofs.lemmas.List.{length-take-le, length_push, get_or_append_left}
 use Rattle.std.proofs.lemmas.List.Elements.{Contains-append_left, Contains-push, Contains-push_cases}
-use Rattle.conley_walk.specs.Lists.{ListedStep}
-use Rattle.conley_walk.proofs.ListLemmas.{Contains-none, place_of}
+use Rattle.conley_lists.specs.Lists.{ListedStep}
+use Rattle.conley_lists.proofs.ListLemmas.{Contains-none, place_of}
 use Rattle.conley_digraph.specs.declared.search.Stage.{Stage}
 use Rattle.conley_digraph.specs.declared.search.Stage.TheVariants.{New, Open, Closed}
 use Rattle.conley_digraph.specs.Search.{stage_of, IsMet, IsPassed, AreStages, AreBounds, AreSegments, AreTurns, AreClosed, IsSearch}
@@ -20,12 +20,14 @@ pub closes_none : (old : List Stage) (class : ℕ) → ClosesAll old old [] clas
 closes_none old class = record { count = refl; closed = λ y c. Contains-none y c; kept = λ y. inr refl }
 
 -- one node more
-pub closes_more : (old new : List Stage) (nodes : List ℕ) (class x : ℕ) → ClosesAll old new nodes class → x < length new → ClosesAll old (set new x (Closed class)) (nodes ++ x ∷ []) class
+pub closes_more : (old new : List Stage) (nodes : List ℕ) (class x : ℕ) → ClosesAll old new nodes class → x < length new
+    → ClosesAll old (set new x (Closed class)) (nodes ++ x ∷ []) class
 closes_more old new nodes class x so_far lt = record {
   count = length-set new x (Closed class) ∙ so_far.count;
   closed = λ y c. elim (cases_eq y x) [
     | inl e ↦ subst (λ z. stage_of (set new x (Closed class)) z ≡ Closed class) (sym e) (get_or-set_same new x (Closed class) New lt)
-    | inr ne ↦ get_or-set_other new x y (Closed class) New ne ∙ elim (Contains-push_cases nodes x y c) [ inl d ↦ so_far.closed y d | inr e ↦ absurd (ne (sym e)) ]
+    | inr ne ↦ get_or-set_other new x y (Closed class) New ne ∙ elim (Contains-push_cases nodes x y c)
+        [ inl d ↦ so_far.closed y d | inr e ↦ absurd (ne (sym e)) ]
   ];
   kept = λ y. elim (cases_eq y x) [
     | inl e ↦ inl (subst (Contains (nodes ++ x ∷ [])) (sym e) (Contains-push nodes x))
@@ -37,7 +39,8 @@ closes_more old new nodes class x so_far lt = record {
 }
 
 -- the segment of the last bound, whose first node is the last of the path, is closed
-module _ (lists : List (List ℕ)) (stages : List Stage) (turns stack bounds rest roots : List ℕ) (q : ℕ) (s : IsSearch lists stages turns stack (bounds ++ q ∷ []) (rest ++ q ∷ []) roots)
+module _ (lists : List (List ℕ)) (stages : List Stage) (turns stack bounds rest roots : List ℕ) (q : ℕ)
+    (s : IsSearch lists stages turns stack (bounds ++ q ∷ []) (rest ++ q ∷ []) roots)
     (is : slice_index turns (slice_index stack q) ≡ 1) (stages' : List Stage) (closes : ClosesAll stages stages' (drop q stack) (length roots)) where
   lq : q < length stack
   lq = s.bounds_are.on_stack q (Contains-push rest q)
@@ -55,7 +58,8 @@ module _ (lists : List (List ℕ)) (stages : List Stage) (turns stack bounds res
     | inr e ↦ e ∙ h
   ]
 
-  was_closed : (y k : ℕ) → stage_of stages' y ≡ Closed k → (stage_of stages y ≡ Closed k) ⊎ ((k ≡ length roots) × ((p : ℕ) × (q ≤ p) × (p < length stack) × (get_or stack p 0 ≡ y)))
+  was_closed : (y k : ℕ) → stage_of stages' y ≡ Closed k → (stage_of stages y ≡ Closed k) ⊎ ((k ≡ length roots)
+      × ((p : ℕ) × (q ≤ p) × (p < length stack) × (get_or stack p 0 ≡ y)))
   was_closed y k h = elim (either y) [
     | inl w ↦ inr (same_class k (length roots) (stage_of stages' y) h (ap (stage_of stages') (sym w.3) ∙ inside w.0 w.1 w.2), w)
     | inr e ↦ inl (sym e ∙ h)
@@ -65,7 +69,8 @@ module _ (lists : List (List ℕ)) (stages : List Stage) (turns stack bounds res
   still_open p lt =
       let lp : p < length stack = omega (arith, lt, lq) in
       elim (either (slice_index stack p)) [
-        | inl w ↦ let same = one_place lists stages turns stack (bounds ++ q ∷ []) (rest ++ q ∷ []) roots s p lp w.0 w.2 w.3 in absurd (omega (arith, same, w.1))
+        | inl w ↦ let same = one_place lists stages turns stack (bounds ++ q ∷ []) (rest ++ q ∷ []) roots s p lp w.0 w.2 w.3 in
+            absurd (omega (arith, same, w.1))
         | inr e ↦ e ∙ s.stages_are.stands p lp
       ]
 
@@ -113,7 +118,8 @@ module _ (lists : List (List ℕ)) (stages : List Stage) (turns stack bounds res
       | inr w ↦ omega (arith, w.0, length_push roots (slice_index stack q))
     ];
     root = λ k lk. elim (cases_eq k (length roots)) [
-      | inl e ↦ ap (stage_of stages') (ap (slice_index (roots ++ slice_index stack q ∷ [])) e ∙ get_or-append_seam roots (slice_index stack q) [] 0) ∙ inside q (omega arith) lq ∙ ap Closed (sym e)
+      | inl e ↦ ap (stage_of stages') (ap (slice_index (roots ++ slice_index stack q ∷ [])) e ∙ get_or-append_seam roots (slice_index stack q) [] 0)
+          ∙ inside q (omega arith) lq ∙ ap Closed (sym e)
       | inr ne ↦
           let lt : k < length roots = omega (arith, lk, length_push roots (slice_index stack q)) in
           ap (stage_of stages') (get_or_append_left roots (slice_index stack q ∷ []) 0 k lt) ∙ still_closed (slice_index roots k) k (s.stages_are.root k lt)
@@ -137,7 +143,8 @@ module _ (lists : List (List ℕ)) (stages : List Stage) (turns stack bounds res
       let lp' : p < q = omega (arith, lp, height) in
       let lr' : r < q = omega (arith, lr, height) in
       reaches_at lists (slice_index (take q stack) r) (slice_index (take q stack) p) (slice_index stack r) (slice_index stack p) (below r lr') (below p lp')
-      (s.segments p r (omega (arith, lq)) (omega (arith, lq)) (λ b c le. elim (Contains-push_cases bounds q b c) [ inl d ↦ within b d le | inr e ↦ absurd (omega (arith, e, le, lr')) ]))
+      (s.segments p r (omega (arith, lq)) (omega (arith, lq)) (λ b c le. elim (Contains-push_cases bounds q b c)
+      [ inl d ↦ within b d le | inr e ↦ absurd (omega (arith, e, le, lr')) ]))
 
   -- what was looked at from below the segment
   still_passed : (r y : ℕ) → IsPassed stages (bounds ++ q ∷ []) r y → IsPassed stages' bounds r y
@@ -178,7 +185,8 @@ module _ (lists : List (List ℕ)) (stages : List Stage) (turns stack bounds res
   }
 
   -- a step from the segment leads to the segment or to a node that was closed
-  steps_inside : (p y : ℕ) → q ≤ p → p < length stack → ListedStep lists (slice_index stack p) y → (j : ℕ) × (j ≤ length roots) × (stage_of stages' y ≡ Closed j)
+  steps_inside : (p y : ℕ) → q ≤ p → p < length stack → ListedStep lists (slice_index stack p) y → (j : ℕ) × (j ≤ length roots)
+      × (stage_of stages' y ≡ Closed j)
   steps_inside p y le lp step =
       let at = place_of (get_or lists (slice_index stack p) []) y step in
       let few : slice_index turns (slice_index stack p) ≤ at.0 + 1 = elim (s.turns_are.left p lp) [

@@ -1,7 +1,7 @@
 -- A visit of a new node, and the classes at the end.
 use Rattle.std.proofs.Common.{◌≡◌, inl, inr, ◌<◌, ℕ, List, length, sym, ap, ◌∙◌, subst, arith}
 use Rattle.std.specs.Prelude.{slice_index}
-use Rattle.conley_walk.proofs.ListLemmas.{step_begins}
+use Rattle.conley_lists.proofs.ListLemmas.{step_begins}
 use Rattle.conley_digraph.specs.declared.search.Search.{Search}
 use Rattle.conley_digraph.specs.declared.search.Stage.{Stage}
 use Rattle.conley_digraph.specs.declared.search.Stage.TheVariants.{New, Closed}
@@ -21,14 +21,17 @@ module _ (lists : List (List ℕ)) (o : Search) (s : IsSearchOf lists o) (empty 
   module _ (n : Search) (x : ℕ) (lx : x < length lists) (new : stage_of o.stages.items x ≡ New) (meets : Meets o n x) where
     pub visit_search : IsSearchOf lists n
     visit_search =
-        search_along lists _ n.stages.items _ n.turns.items _ n.stack.items _ n.bounds.items _ n.path.items _ n.roots.items meets.stages meets.turns meets.stack meets.bounds meets.path meets.roots
+        search_along lists _ n.stages.items _ n.turns.items _ n.stack.items _ n.bounds.items _ n.path.items _ n.roots.items meets.stages meets.turns
+        meets.stack meets.bounds meets.path meets.roots
         (meet_search lists o.stages.items o.turns.items o.stack.items o.bounds.items o.path.items o.roots.items s x lx new (λ p lt. none_open p lt))
 
     pub visit_keeps : (y : ℕ) → IsMet o.stages.items y → IsMet n.stages.items y
-    visit_keeps y m = subst (λ st. IsMet st y) (sym meets.stages) (meet_keeps lists o.stages.items o.turns.items o.stack.items o.bounds.items o.path.items o.roots.items s x lx new (λ p lt. none_open p lt) y m)
+    visit_keeps y m = subst (λ st. IsMet st y) (sym meets.stages) (meet_keeps lists o.stages.items o.turns.items o.stack.items o.bounds.items o.path.items
+        o.roots.items s x lx new (λ p lt. none_open p lt) y m)
 
     pub visit_meets : IsMet n.stages.items x
-    visit_meets = subst (λ st. IsMet st x) (sym meets.stages) (meet_meets lists o.stages.items o.turns.items o.stack.items o.bounds.items o.path.items o.roots.items s x lx new (λ p lt. none_open p lt))
+    visit_meets = subst (λ st. IsMet st x) (sym meets.stages) (meet_meets lists o.stages.items o.turns.items o.stack.items o.bounds.items o.path.items
+        o.roots.items s x lx new (λ p lt. none_open p lt))
 
   -- and what is met is closed
   pub met_closed : (y : ℕ) → IsMet o.stages.items y → (k : ℕ) × (stage_of o.stages.items y ≡ Closed k)
@@ -36,7 +39,8 @@ module _ (lists : List (List ℕ)) (o : Search) (s : IsSearchOf lists o) (empty 
   met_closed y (inr c) = c
 
 -- all nodes are closed
-pub closing_all : (lists : List (List ℕ)) (stages : List Stage) (turns stack bounds path roots numbers : List ℕ) → IsSearch lists stages turns stack bounds path roots →
+pub closing_all : (lists : List (List ℕ)) (stages : List Stage) (turns stack bounds path roots numbers : List ℕ)
+    → IsSearch lists stages turns stack bounds path roots →
     AreNumbers stages numbers (length stages) → AreClosing lists numbers roots
 closing_all lists stages turns stack bounds path roots numbers s numbered = record {
   count = numbered.count ∙ s.stages_are.count;

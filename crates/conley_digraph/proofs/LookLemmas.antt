@@ -5,7 +5,7 @@ use Rattle.std.proofs.Math.ListN.{length-set}
 use Rattle.std.proofs.lemmas.Bool.{cases_eq}
 use Rattle.std.proofs.lemmas.List.Elements.{Contains-append_left, Contains-push, Contains-push_cases}
 use Rattle.conley_walk.specs.Walk.{Reaches}
-use Rattle.conley_walk.specs.Lists.{ListedStep}
+use Rattle.conley_lists.specs.Lists.{ListedStep}
 use Rattle.conley_walk.proofs.WalkLemmas.{reaches_on, reaches_by_step}
 use Rattle.conley_digraph.specs.declared.search.Stage.{Stage}
 use Rattle.conley_digraph.specs.declared.search.Stage.TheVariants.{New}
@@ -13,7 +13,8 @@ use Rattle.conley_digraph.specs.Search.{stage_of, IsPassed, AreTurns, IsSearch}
 use Rattle.conley_digraph.proofs.StackLemmas.{increasing_before, before_last, new_open, same_place, open_below}
 
 -- an open node has one place
-module _ (lists : List (List ℕ)) (stages : List Stage) (turns stack bounds path roots : List ℕ) (s : IsSearch lists stages turns stack bounds path roots) (q : ℕ) (lq : q < length stack) where
+module _ (lists : List (List ℕ)) (stages : List Stage) (turns stack bounds path roots : List ℕ) (s : IsSearch lists stages turns stack bounds path roots)
+    (q : ℕ) (lq : q < length stack) where
   pub is_node : slice_index stack q < length lists
   is_node = omega (arith, open_below stages (slice_index stack q) q (s.stages_are.stands q lq), s.stages_are.count)
 
@@ -56,7 +57,8 @@ module _ (lists : List (List ℕ)) (stages : List Stage) (turns stack bounds pat
     ];
     left = λ r lr. elim (s.turns_are.left r lr) [
       | inl c ↦ inl c
-      | inr none ↦ inr (turn_there lists stages turns stack bounds path roots s q lq t (slice_index stack r) (λ e. omega (arith, ap (slice_index turns) e, none, is)) ∙ none)
+      | inr none ↦ inr (turn_there lists stages turns stack bounds path roots s q lq t (slice_index stack r)
+          (λ e. omega (arith, ap (slice_index turns) e, none, is)) ∙ none)
     ];
     looked = λ r i lr li le. elim (cases_eq (slice_index stack r) (slice_index stack q)) [
       | inl e ↦
@@ -64,7 +66,14 @@ module _ (lists : List (List ℕ)) (stages : List Stage) (turns stack bounds pat
           elim (cases_eq i (t - 1)) [
             | inl last ↦ subst (λ z. IsPassed stages bounds z (slice_index (get_or lists (slice_index stack z) []) i)) (sym here)
                 (subst (λ j. IsPassed stages bounds q (slice_index (get_or lists (slice_index stack q) []) j)) (sym last) passed)
-            | inr ne ↦ s.turns_are.looked r i lr li (omega (arith, ap (slice_index (set turns (slice_index stack q) t)) e, turn_here lists stages turns stack bounds path roots s q lq t, le, ap (slice_index turns) e, is))
+            | inr ne ↦ s.turns_are.looked r i lr li (omega (
+              arith,
+              ap (slice_index (set turns (slice_index stack q) t)) e,
+              turn_here lists stages turns stack bounds path roots s q lq t,
+              le,
+              ap (slice_index turns) e,
+              is,
+            ))
           ]
       | inr ne ↦ s.turns_are.looked r i lr li (omega (arith, turn_there lists stages turns stack bounds path roots s q lq t (slice_index stack r) ne, le))
     ];
@@ -78,11 +87,13 @@ pub look_at : (lists : List (List ℕ)) (stages : List Stage) (turns stack bound
     (q x : ℕ) (at : slice_index stack q ≡ x) (cq : Contains path q) (t : ℕ) (more : 0 < t) (is : slice_index turns x ≡ t + 1)
     (passed : IsPassed stages bounds q (slice_index (get_or lists x []) (t - 1))) → IsSearch lists stages (set turns x t) stack bounds path roots
 look_at lists stages turns stack bounds path roots s q x at cq t more =
-    subst (λ z. slice_index turns z ≡ t + 1 → IsPassed stages bounds q (slice_index (get_or lists z []) (t - 1)) → IsSearch lists stages (set turns z t) stack bounds path roots) at
+    subst (λ z. slice_index turns z ≡ t + 1 → IsPassed stages bounds q (slice_index (get_or lists z []) (t - 1))
+    → IsSearch lists stages (set turns z t) stack bounds path roots) at
     (look_search lists stages turns stack bounds path roots s q cq t more)
 
 -- the last node of the path
-module _ (lists : List (List ℕ)) (stages : List Stage) (turns stack bounds rest roots : List ℕ) (q : ℕ) (s : IsSearch lists stages turns stack bounds (rest ++ q ∷ []) roots) where
+module _ (lists : List (List ℕ)) (stages : List Stage) (turns stack bounds rest roots : List ℕ) (q : ℕ)
+    (s : IsSearch lists stages turns stack bounds (rest ++ q ∷ []) roots) where
   pub last_on_stack : q < length stack
   last_on_stack = s.bounds_are.on_stack q (Contains-push rest q)
 
@@ -113,7 +124,8 @@ module _ (lists : List (List ℕ)) (stages : List Stage) (turns stack bounds res
           absurd (omega (arith, here, before_last rest q s.bounds_are.path_rises r c)) in
           omega (arith, turn_there lists stages turns stack bounds (rest ++ q ∷ []) roots s q last_on_stack 0 (slice_index stack r) ne, s.turns_are.wants r on);
       left = λ r lr. elim (cases_eq (slice_index stack r) (slice_index stack q)) [
-        | inl e ↦ inr (ap (slice_index (set turns (slice_index stack q) 0)) e ∙ turn_here lists stages turns stack bounds (rest ++ q ∷ []) roots s q last_on_stack 0)
+        | inl e ↦ inr (ap (slice_index (set turns (slice_index stack q) 0)) e ∙ turn_here lists stages turns stack bounds (rest ++ q ∷ []) roots s q
+            last_on_stack 0)
         | inr ne ↦ elim (s.turns_are.left r lr) [
           | inl c ↦ elim (Contains-push_cases rest q r c) [ inl d ↦ inl d | inr e ↦ absurd (ne (ap (slice_index stack) (sym e))) ]
           | inr none ↦ inr (turn_there lists stages turns stack bounds (rest ++ q ∷ []) roots s q last_on_stack 0 (slice_index stack r) ne ∙ none)
@@ -121,7 +133,12 @@ module _ (lists : List (List ℕ)) (stages : List Stage) (turns stack bounds res
       ];
       looked = λ r i lr li le. elim (cases_eq (slice_index stack r) (slice_index stack q)) [
         | inl e ↦ s.turns_are.looked r i lr li (omega (arith, ap (slice_index turns) e, is))
-        | inr ne ↦ s.turns_are.looked r i lr li (omega (arith, turn_there lists stages turns stack bounds (rest ++ q ∷ []) roots s q last_on_stack 0 (slice_index stack r) ne, le))
+        | inr ne ↦ s.turns_are.looked r i lr li (omega (
+          arith,
+          turn_there lists stages turns stack bounds (rest ++ q ∷ []) roots s q last_on_stack 0
+              (slice_index stack r) ne,
+          le,
+        ))
       ];
     }
 

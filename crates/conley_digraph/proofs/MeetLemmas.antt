@@ -7,16 +7,17 @@ use Rattle.std.proofs.lemmas.Bool.{cases_eq, cases_lt}
 use Rattle.std.proofs.lemmas.List.{get_or_append_left, length_push}
 use Rattle.std.proofs.lemmas.List.Elements.{Contains-append_left, Contains-push, Contains-push_cases}
 use Rattle.conley_walk.specs.Walk.{Reaches}
-use Rattle.conley_walk.specs.Lists.{ListedStep}
+use Rattle.conley_lists.specs.Lists.{ListedStep}
 use Rattle.conley_walk.proofs.WalkLemmas.{reaches_itself}
-use Rattle.conley_walk.proofs.ListLemmas.{increasing-push, All-from_contained}
+use Rattle.conley_lists.proofs.ListLemmas.{increasing-push, All-from_contained}
 use Rattle.conley_digraph.specs.declared.search.Stage.{Stage}
 use Rattle.conley_digraph.specs.declared.search.Stage.TheVariants.{New, Open, Closed}
 use Rattle.conley_digraph.specs.Search.{stage_of, IsMet, IsPassed, AreStages, AreBounds, AreSegments, AreTurns, IsSearch}
 use Rattle.conley_digraph.proofs.StackLemmas.{new_open, new_closed, same_place, reaches_at}
 
 module _ (lists : List (List ℕ)) (stages : List Stage) (turns stack bounds path roots : List ℕ) (s : IsSearch lists stages turns stack bounds path roots)
-    (x : ℕ) (lx : x < length lists) (new : stage_of stages x ≡ New) (reached : (p : ℕ) → p < length stack → Reaches (ListedStep lists) (slice_index stack p) x) where
+    (x : ℕ) (lx : x < length lists) (new : stage_of stages x ≡ New) (reached : (p : ℕ) → p < length stack
+    → Reaches (ListedStep lists) (slice_index stack p) x) where
   -- stages of this node and of the others
   at_x : stage_of (set stages x (Open (length stack))) x ≡ Open (length stack)
   at_x = get_or-set_same stages x (Open (length stack)) New (omega (arith, lx, s.stages_are.count))
@@ -32,7 +33,11 @@ module _ (lists : List (List ℕ)) (stages : List Stage) (turns stack bounds pat
 
   was_open : (y p : ℕ) → stage_of (set stages x (Open (length stack))) y ≡ Open p → ((y ≡ x) × (p ≡ length stack)) ⊎ (stage_of stages y ≡ Open p)
   was_open y p h = elim (cases_eq y x) [
-    | inl e ↦ inl (e, same_place p (length stack) (stage_of (set stages x (Open (length stack))) x) (ap (stage_of (set stages x (Open (length stack)))) (sym e) ∙ h) at_x)
+    | inl e ↦ inl (
+      e,
+      same_place p (length stack) (stage_of (set stages x (Open (length stack))) x)
+          (ap (stage_of (set stages x (Open (length stack)))) (sym e) ∙ h) at_x,
+    )
     | inr ne ↦ inr (sym (at_other y ne) ∙ h)
   ]
 
@@ -82,7 +87,8 @@ module _ (lists : List (List ℕ)) (stages : List Stage) (turns stack bounds pat
 
   meet_bounds : AreBounds (length (stack ++ x ∷ [])) (bounds ++ length stack ∷ []) (path ++ length stack ∷ [])
   meet_bounds = record {
-    bounds_rise = increasing-push bounds (length stack) s.bounds_are.bounds_rise (All-from_contained (λ b. b < length stack) bounds (λ b c. s.bounds_are.on_stack b (s.bounds_are.on_path b c)));
+    bounds_rise = increasing-push bounds (length stack) s.bounds_are.bounds_rise (All-from_contained (λ b. b < length stack) bounds
+        (λ b c. s.bounds_are.on_stack b (s.bounds_are.on_path b c)));
     path_rises = increasing-push path (length stack) s.bounds_are.path_rises (All-from_contained (λ p. p < length stack) path s.bounds_are.on_stack);
     on_stack = λ p c. elim (Contains-push_cases path (length stack) p c) [
       | inl d ↦ omega (arith, s.bounds_are.on_stack p d, length_push stack x)
@@ -105,16 +111,23 @@ module _ (lists : List (List ℕ)) (stages : List Stage) (turns stack bounds pat
         let same : length stack ≡ p = omega (arith, le, lp, length_push stack x) in
         reaches_at lists (slice_index (stack ++ x ∷ []) q) (slice_index (stack ++ x ∷ []) p) x x (at_top q e) (at_top p same) (reaches_itself x)
     | inr lt ↦ elim (top_or_below p lp) [
-      | inl e ↦ reaches_at lists (slice_index (stack ++ x ∷ []) q) (slice_index (stack ++ x ∷ []) p) (slice_index stack q) x (at_below q lt) (at_top p e) (reached q lt)
+      | inl e ↦ reaches_at lists (slice_index (stack ++ x ∷ []) q) (slice_index (stack ++ x ∷ []) p) (slice_index stack q) x (at_below q lt) (at_top p e)
+          (reached q lt)
       | inr lt' ↦
-          reaches_at lists (slice_index (stack ++ x ∷ []) q) (slice_index (stack ++ x ∷ []) p) (slice_index stack q) (slice_index stack p) (at_below q lt) (at_below p lt')
+          reaches_at lists (slice_index (stack ++ x ∷ []) q) (slice_index (stack ++ x ∷ []) p) (slice_index stack q) (slice_index stack p) (at_below q lt)
+          (at_below p lt')
           (s.segments p q lt' lt (λ b c. within b (Contains-append_left bounds (length stack ∷ []) b c)))
     ]
   ]
 
   still_passed : (q y : ℕ) → q < length stack → IsPassed stages bounds q y → IsPassed (set stages x (Open (length stack))) (bounds ++ length stack ∷ []) q y
   still_passed q y lt (inl c) = inl (c.0, still_closed y c.0 c.1)
-  still_passed q y lt (inr o) = inr (o.0, still_open y o.0 o.1, λ b c le. elim (Contains-push_cases bounds (length stack) b c) [ inl d ↦ o.2 b d le | inr e ↦ absurd (omega (arith, e, le, lt)) ])
+  still_passed q y lt (inr o) = inr (
+    o.0,
+    still_open y o.0 o.1,
+    λ b c le. elim (Contains-push_cases bounds (length stack) b c)
+        [ inl d ↦ o.2 b d le | inr e ↦ absurd (omega (arith, e, le, lt)) ],
+  )
 
   meet_turns : AreTurns lists (set stages x (Open (length stack))) turns (stack ++ x ∷ []) (bounds ++ length stack ∷ []) (path ++ length stack ∷ [])
   meet_turns = record {

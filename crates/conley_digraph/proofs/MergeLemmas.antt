@@ -6,9 +6,9 @@ use Rattle.std.proofs.lemmas.Bool.{cases_eq, cases_lt}
 use Rattle.std.proofs.lemmas.List.{length-take-le}
 use Rattle.std.proofs.lemmas.List.Elements.{Contains-get_or}
 use Rattle.conley_walk.specs.Walk.{Reaches}
-use Rattle.conley_walk.specs.Lists.{ListedStep}
+use Rattle.conley_lists.specs.Lists.{ListedStep}
 use Rattle.conley_walk.proofs.WalkLemmas.{reaches_on}
-use Rattle.conley_walk.proofs.ListLemmas.{rises, place_of}
+use Rattle.conley_lists.proofs.ListLemmas.{rises, place_of}
 use Rattle.conley_digraph.specs.declared.search.Stage.{Stage}
 use Rattle.conley_digraph.specs.declared.search.Stage.TheVariants.{Open}
 use Rattle.conley_digraph.specs.Search.{stage_of, IsPassed, IsSearch}
@@ -41,7 +41,8 @@ module _ (bounds : List ℕ) (up : IsStrictlyIncreasing bounds) (kept place : �
       (λ c.
           let at = place_of bounds b c.0 in
           elim (cases_lt at.0 kept) [
-            | inl lt ↦ subst (Contains (take kept bounds)) (get_or-take kept bounds at.0 0 lt ∙ at.2) (Contains-get_or (take kept bounds) at.0 0 (omega (arith, kept_length)))
+            | inl lt ↦ subst (Contains (take kept bounds)) (get_or-take kept bounds at.0 0 lt ∙ at.2)
+                (Contains-get_or (take kept bounds) at.0 0 (omega (arith, kept_length)))
             | inr le ↦ absurd (omega (arith, past at.0 le at.1, at.2, c.1))
           ]),
     );

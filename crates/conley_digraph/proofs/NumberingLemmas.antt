@@ -5,7 +5,7 @@ use Rattle.std.proofs.lemmas.Bool.{cases_eq}
 use Rattle.std.proofs.lemmas.List.{get_or_append_left, get_or_push, length_push}
 use Rattle.std.proofs.lemmas.Option.{none-some, same_Some}
 use Rattle.conley_walk.specs.Walk.{Reaches}
-use Rattle.conley_walk.specs.Lists.{ListedStep}
+use Rattle.conley_lists.specs.Lists.{ListedStep}
 use Rattle.conley_walk.proofs.WalkLemmas.{reaches_least}
 use Rattle.conley_digraph.specs.Classes.{AreClasses}
 use Rattle.conley_digraph.specs.Closing.{AreClosing}
@@ -25,7 +25,8 @@ module _ (numbers class_of : List ℕ) (n class : ℕ) (count : length class_of 
   new_class = get_or_push class_of class 0 n count
 
   -- the number of the node is told apart as before
-  pub renumbered_more : IsRenumbered numbers class_of n → class ≤ n → ((x : ℕ) → x < n → (slice_index class_of x ≡ class) ↔ (slice_index numbers x ≡ slice_index numbers n)) →
+  pub renumbered_more : IsRenumbered numbers class_of n → class ≤ n → ((x : ℕ) → x < n → (slice_index class_of x ≡ class)
+      ↔ (slice_index numbers x ≡ slice_index numbers n)) →
       ((k : ℕ) → k < class → (x : ℕ) × (x < n) × (slice_index class_of x ≡ k)) → IsRenumbered numbers (class_of ++ class ∷ []) (n + 1)
   renumbered_more done le apart used = record {
     count = omega (arith, length_push class_of class, count);
@@ -70,7 +71,8 @@ module _ (numbers class_of : List ℕ) (n class : ℕ) (count : length class_of 
 
 module _ (numbers class_of : List ℕ) (renamed : List (Option ℕ)) (next n : ℕ) (so_far : IsRenumberedSoFar numbers class_of renamed next n) where
   -- the number of node n was seen
-  pub renamed_same : (class : ℕ) → slice_index_or renamed (slice_index numbers n) None ≡ Some class → IsRenumberedSoFar numbers (class_of ++ class ∷ []) renamed next (n + 1)
+  pub renamed_same : (class : ℕ) → slice_index_or renamed (slice_index numbers n) None ≡ Some class
+      → IsRenumberedSoFar numbers (class_of ++ class ∷ []) renamed next (n + 1)
   renamed_same class h = record {
     done = renumbered_more numbers class_of n class so_far.done.count so_far.done (omega (arith, seen.0, so_far.few))
         (λ x lt. (
@@ -118,7 +120,8 @@ module _ (numbers class_of : List ℕ) (renamed : List (Option ℕ)) (next n : �
     ];
     named = λ k c e. elim (cases_eq k (slice_index numbers n)) [
       | inl here ↦
-          let is : next ≡ c = same_Some next c (sym (get_or-set_same renamed (slice_index numbers n) (Some next) None within) ∙ ap (λ j. slice_index_or (set renamed (slice_index numbers n) (Some next)) j None) (sym here) ∙ e) in
+          let is : next ≡ c = same_Some next c (sym (get_or-set_same renamed (slice_index numbers n) (Some next) None within)
+          ∙ ap (λ j. slice_index_or (set renamed (slice_index numbers n) (Some next)) j None) (sym here) ∙ e) in
           (omega (arith, is), (n, omega arith, sym here, new ∙ is))
       | inr ne ↦
           let w = so_far.named k c (sym (get_or-set_other renamed (slice_index numbers n) k (Some next) None ne) ∙ e) in
@@ -140,7 +143,8 @@ module _ (numbers class_of : List ℕ) (renamed : List (Option ℕ)) (next n : �
       other x lt e = none-some (slice_index class_of x) (sym h ∙ ap (λ k. slice_index_or renamed k None) (sym e) ∙ so_far.known x lt)
 
 -- classes are told apart by the order in which they were closed, in any numbering
-pub closing_classes : (lists : List (List ℕ)) (numbers roots class_of : List ℕ) → AreClosing lists numbers roots → IsRenumbered numbers class_of (length numbers) → AreClasses lists class_of
+pub closing_classes : (lists : List (List ℕ)) (numbers roots class_of : List ℕ) → AreClosing lists numbers roots
+    → IsRenumbered numbers class_of (length numbers) → AreClasses lists class_of
 closing_classes lists numbers roots class_of closing renumbered = record {
   count = renumbered.count ∙ closing.count;
   same = λ x y lx ly.

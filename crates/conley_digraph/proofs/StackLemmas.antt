@@ -7,8 +7,8 @@ use Rattle.std.proofs.lemmas.Bool.{cases_lt}
 use Rattle.std.proofs.lemmas.List.{take_all, take_more, get_or_append_left, get_or_past}
 use Rattle.std.proofs.lemmas.List.Elements.{Contains-get_or}
 use Rattle.conley_walk.specs.Walk.{Reaches}
-use Rattle.conley_walk.specs.Lists.{ListedStep}
-use Rattle.conley_walk.proofs.ListLemmas.{rises, place_of}
+use Rattle.conley_lists.specs.Lists.{ListedStep}
+use Rattle.conley_lists.proofs.ListLemmas.{rises, place_of}
 use Rattle.conley_digraph.specs.declared.search.Stage.{Stage}
 use Rattle.conley_digraph.specs.declared.search.Stage.TheVariants.{New, Open, Closed}
 use Rattle.conley_digraph.specs.Search.{stage_of, IsMet}

@@ -6,8 +6,8 @@ use Rattle.std.proofs.lemmas.List.{get_or_append_left, get_or_default, get_or_re
 use Rattle.std.proofs.lemmas.List.Sums.{sum_by-set}
 use Rattle.std.proofs.lemmas.List.Elements.{Contains-append_left, Contains-get_or, Contains-push_cases}
 use Rattle.conley_walk.specs.Walk.{Reaches}
-use Rattle.conley_walk.specs.Lists.{items_of, ListedStep, IsDigraph}
-use Rattle.conley_walk.proofs.ListLemmas.{row_of, length-items_of}
+use Rattle.conley_lists.specs.Lists.{items_of, ListedStep, IsDigraph}
+use Rattle.conley_lists.proofs.ListLemmas.{row_of, length-items_of}
 use Rattle.conley_digraph.specs.declared.search.Search.{Search}
 use Rattle.conley_digraph.specs.declared.search.Stage.{Stage}
 use Rattle.conley_digraph.specs.declared.search.Stage.TheVariants.{New, Open, Closed}
@@ -30,7 +30,8 @@ pub search_along : (lists : List (List ℕ)) (stages stages' : List Stage) (turn
 search_along lists stages stages' turns turns' stack stack' bounds bounds' path path' roots roots' e f g h i j s = rw (e, f, g, h, i, j) s
 
 -- the last place of the path, as it is read
-module _ (steps : List (Vec ℕ Global)) (o : Search) (s : IsSearchOf (items_of steps) o) (some : 0 < length o.path.items) (len q : ℕ) (len_is : len ≡ vec_len o.path) (q_read : q ≡ get_or o.path.items (len - 1) q) where
+module _ (steps : List (Vec ℕ Global)) (o : Search) (s : IsSearchOf (items_of steps) o) (some : 0 < length o.path.items) (len q : ℕ)
+    (len_is : len ≡ vec_len o.path) (q_read : q ≡ get_or o.path.items (len - 1) q) where
   abbrev lists : List (List ℕ)
   lists = items_of steps
 
@@ -58,7 +59,13 @@ module _ (steps : List (Vec ℕ Global)) (o : Search) (s : IsSearchOf (items_of 
   some_bound = let c = s.bounds_are.first (omega (arith, on_stack)) in omega (arith, c.1)
 
   pub all_nodes : All (λ x. x < length o.stages.items) o.stack.items
-  all_nodes k d lt = omega (arith, get_or_default o.stack.items k d 0 lt, is_node lists o.stages.items o.turns.items o.stack.items o.bounds.items o.path.items o.roots.items s k lt, s.stages_are.count)
+  all_nodes k d lt = omega (
+    arith,
+    get_or_default o.stack.items k d 0 lt,
+    is_node lists o.stages.items o.turns.items o.stack.items o.bounds.items o.path.items
+        o.roots.items s k lt,
+    s.stages_are.count,
+  )
 
   -- its node
   module _ (x : ℕ) (x_read : x ≡ get_or o.stack.items q x) where
@@ -66,13 +73,20 @@ module _ (steps : List (Vec ℕ Global)) (o : Search) (s : IsSearchOf (items_of 
     at = sym (get_or_read o.stack.items q x on_stack x_read 0)
 
     pub last_node : x < length steps
-    last_node = omega (arith, length-items_of steps, ap (λ (z : ℕ). z) at, is_node lists o.stages.items o.turns.items o.stack.items o.bounds.items o.path.items o.roots.items s q on_stack)
+    last_node = omega (
+      arith,
+      length-items_of steps,
+      ap (λ (z : ℕ). z) at,
+      is_node lists o.stages.items o.turns.items o.stack.items o.bounds.items o.path.items
+          o.roots.items s q on_stack,
+    )
 
     pub in_turns : x < vec_len o.turns
     in_turns = omega (arith, last_node, length-items_of steps, s.turns_are.count, o.turns.ok.0)
 
     reached : (y : ℕ) → ListedStep lists x y → (r : ℕ) → r < length o.stack.items → Reaches (ListedStep lists) (slice_index o.stack.items r) y
-    reached y step = head_reached lists o.stages.items o.turns.items o.stack.items o.bounds.items rest o.roots.items q by_last y (subst (λ z. ListedStep lists z y) (sym at) step)
+    reached y step = head_reached lists o.stages.items o.turns.items o.stack.items o.bounds.items rest o.roots.items q by_last y
+        (subst (λ z. ListedStep lists z y) (sym at) step)
 
     -- the turns that it wants
     module _ (w : ℕ) (w_read : w ≡ get_or o.turns.items x w) where
@@ -120,27 +134,38 @@ module _ (steps : List (Vec ℕ Global)) (o : Search) (s : IsSearchOf (items_of 
                 let met = meet_search lists o.stages.items o.turns.items o.stack.items o.bounds.items o.path.items o.roots.items s y ly e fresh in
                 let passed = meet_passed lists o.stages.items o.turns.items o.stack.items o.bounds.items o.path.items o.roots.items s y ly e fresh q on_stack in
                 record {
-                  search = search_along lists _ n.stages.items _ n.turns.items _ n.stack.items _ n.bounds.items _ n.path.items _ n.roots.items meets.stages (meets.turns ∙ set_is) meets.stack meets.bounds meets.path meets.roots
-                      (look_at lists (set o.stages.items y (Open (length o.stack.items))) o.turns.items (o.stack.items ++ y ∷ []) (o.bounds.items ++ length o.stack.items ∷ []) (o.path.items ++ length o.stack.items ∷ []) o.roots.items met
-                      q x (get_or_append_left o.stack.items (y ∷ []) 0 q on_stack ∙ at) (Contains-append_left o.path.items (length o.stack.items ∷ []) q on_path) (w - 1) more is
+                  search = search_along lists _ n.stages.items _ n.turns.items _ n.stack.items _ n.bounds.items _ n.path.items _ n.roots.items meets.stages
+                      (meets.turns ∙ set_is) meets.stack meets.bounds meets.path meets.roots
+                      (look_at lists (set o.stages.items y (Open (length o.stack.items))) o.turns.items (o.stack.items ++ y ∷ [])
+                      (o.bounds.items ++ length o.stack.items ∷ []) (o.path.items ++ length o.stack.items ∷ []) o.roots.items met
+                      q x (get_or_append_left o.stack.items (y ∷ []) 0 q on_stack ∙ at) (Contains-append_left o.path.items (length o.stack.items ∷ []) q
+                      on_path) (w - 1) more is
                       (subst (IsPassed (set o.stages.items y (Open (length o.stack.items))) (o.bounds.items ++ length o.stack.items ∷ []) q) head passed));
-                  met = λ z m. subst (λ st. IsMet st z) (sym meets.stages) (meet_keeps lists o.stages.items o.turns.items o.stack.items o.bounds.items o.path.items o.roots.items s y ly e fresh z m);
+                  met = λ z m. subst (λ st. IsMet st z) (sym meets.stages) (meet_keeps lists o.stages.items o.turns.items o.stack.items o.bounds.items
+                      o.path.items o.roots.items s y ly e fresh z m);
                   turns = subst (λ l. sum l < sum o.turns.items) (sym (meets.turns ∙ set_is)) less;
                 }
             by_stage (Open p) e did =
                 let there = s.stages_are.open_at y p e in
-                let circle = λ (r : ℕ) (lr : r < length o.stack.items). subst (λ z. Reaches (ListedStep lists) (slice_index o.stack.items r) z) (sym there.1) (reached y step r lr) in
-                let merged = merge_search lists o.stages.items o.turns.items o.stack.items o.bounds.items o.path.items o.roots.items s p there.0 circle n.bounds.items did.1 in
-                let passed = merge_passed lists o.stages.items o.turns.items o.stack.items o.bounds.items o.path.items o.roots.items s p there.0 circle n.bounds.items did.1 q y e in
+                let circle = λ (r : ℕ) (lr : r < length o.stack.items). subst (λ z. Reaches (ListedStep lists) (slice_index o.stack.items r) z) (sym there.1)
+                (reached y step r lr) in
+                let merged = merge_search lists o.stages.items o.turns.items o.stack.items o.bounds.items o.path.items o.roots.items s p there.0 circle
+                n.bounds.items did.1 in
+                let passed = merge_passed lists o.stages.items o.turns.items o.stack.items o.bounds.items o.path.items o.roots.items s p there.0 circle
+                n.bounds.items did.1 q y e in
                 record {
-                  search = search_along lists _ n.stages.items _ n.turns.items _ n.stack.items n.bounds.items n.bounds.items _ n.path.items _ n.roots.items did.0.stages (did.0.turns ∙ set_is) did.0.stack refl did.0.path did.0.roots
-                      (look_at lists o.stages.items o.turns.items o.stack.items n.bounds.items o.path.items o.roots.items merged q x at on_path (w - 1) more is (subst (IsPassed o.stages.items n.bounds.items q) head passed));
+                  search = search_along lists _ n.stages.items _ n.turns.items _ n.stack.items n.bounds.items n.bounds.items _ n.path.items _ n.roots.items
+                      did.0.stages (did.0.turns ∙ set_is) did.0.stack refl did.0.path did.0.roots
+                      (look_at lists o.stages.items o.turns.items o.stack.items n.bounds.items o.path.items o.roots.items merged q x at on_path (w - 1) more is
+                      (subst (IsPassed o.stages.items n.bounds.items q) head passed));
                   met = λ z m. subst (λ st. IsMet st z) (sym did.0.stages) m;
                   turns = subst (λ l. sum l < sum o.turns.items) (sym (did.0.turns ∙ set_is)) less;
                 }
             by_stage (Closed k) e did = record {
-              search = search_along lists _ n.stages.items _ n.turns.items _ n.stack.items _ n.bounds.items _ n.path.items _ n.roots.items did.0.stages (did.0.turns ∙ set_is) did.0.stack did.1 did.0.path did.0.roots
-                  (look_at lists o.stages.items o.turns.items o.stack.items o.bounds.items o.path.items o.roots.items s q x at on_path (w - 1) more is (subst (IsPassed o.stages.items o.bounds.items q) head (inl (k, e))));
+              search = search_along lists _ n.stages.items _ n.turns.items _ n.stack.items _ n.bounds.items _ n.path.items _ n.roots.items did.0.stages
+                  (did.0.turns ∙ set_is) did.0.stack did.1 did.0.path did.0.roots
+                  (look_at lists o.stages.items o.turns.items o.stack.items o.bounds.items o.path.items o.roots.items s q x at on_path (w - 1) more is
+                  (subst (IsPassed o.stages.items o.bounds.items q) head (inl (k, e))));
               met = λ z m. subst (λ st. IsMet st z) (sym did.0.stages) m;
               turns = subst (λ l. sum l < sum o.turns.items) (sym (did.0.turns ∙ set_is)) less;
             }
@@ -165,9 +190,12 @@ module _ (steps : List (Vec ℕ Global)) (o : Search) (s : IsSearchOf (items_of 
             split_last o.bounds.items some_bound ∙ ap (λ (b : ℕ). take (length o.bounds.items - 1) o.bounds.items ++ b ∷ []) e in
             let s' = subst (λ bs. IsSearch lists o.stages.items o.turns.items o.stack.items bs (rest ++ q ∷ []) o.roots.items) bounds_is by_last in
             record {
-              search = search_along lists n.stages.items n.stages.items _ n.turns.items _ n.stack.items _ n.bounds.items _ n.path.items _ n.roots.items refl (closes.turns ∙ set_none) closes.stack closes.bounds closes.path closes.roots
-                  (close_search lists o.stages.items o.turns.items o.stack.items (take (length o.bounds.items - 1) o.bounds.items) rest o.roots.items q s' is_one n.stages.items closes.stages);
-              met = close_keeps lists o.stages.items o.turns.items o.stack.items (take (length o.bounds.items - 1) o.bounds.items) rest o.roots.items q s' is_one n.stages.items closes.stages;
+              search = search_along lists n.stages.items n.stages.items _ n.turns.items _ n.stack.items _ n.bounds.items _ n.path.items _ n.roots.items refl
+                  (closes.turns ∙ set_none) closes.stack closes.bounds closes.path closes.roots
+                  (close_search lists o.stages.items o.turns.items o.stack.items (take (length o.bounds.items - 1) o.bounds.items) rest o.roots.items q s'
+                  is_one n.stages.items closes.stages);
+              met = close_keeps lists o.stages.items o.turns.items o.stack.items (take (length o.bounds.items - 1) o.bounds.items) rest o.roots.items q s'
+                  is_one n.stages.items closes.stages;
               turns = subst (λ l. sum l < sum o.turns.items) (sym (closes.turns ∙ set_is)) less;
             }
 
@@ -189,7 +217,8 @@ module _ (steps : List (Vec ℕ Global)) (o : Search) (s : IsSearchOf (items_of 
 
         left_turned : slice_index o.bounds.items (length o.bounds.items - 1) ≢ q → KeepsStack (record o { turns = v }) n → IsTurned lists o n
         left_turned ne keeps = record {
-          search = search_along lists _ n.stages.items _ n.turns.items _ n.stack.items _ n.bounds.items _ n.path.items _ n.roots.items keeps.stages (keeps.turns ∙ set_none) keeps.stack keeps.bounds keeps.path keeps.roots
+          search = search_along lists _ n.stages.items _ n.turns.items _ n.stack.items _ n.bounds.items _ n.path.items _ n.roots.items keeps.stages
+              (keeps.turns ∙ set_none) keeps.stack keeps.bounds keeps.path keeps.roots
               (leave_search lists o.stages.items o.turns.items o.stack.items o.bounds.items rest o.roots.items q by_last is_one (inner ne));
           met = λ z m. subst (λ st. IsMet st z) (sym keeps.stages) m;
           turns = subst (λ l. sum l < sum o.turns.items) (sym (keeps.turns ∙ set_is)) less;

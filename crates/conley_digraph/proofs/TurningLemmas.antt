@@ -4,9 +4,9 @@ use Rattle.std.specs.Prelude.{Contains, ◌↔◌}
 use Rattle.std.proofs.lemmas.Bool.{cases_order}
 use Rattle.std.proofs.lemmas.List.Elements.{Contains-append_left, Contains-push, Contains-push_cases}
 use Rattle.conley_walk.specs.Walk.{Reaches}
-use Rattle.conley_walk.specs.Lists.{ListedStep, IsDigraph, PutsUnder}
+use Rattle.conley_lists.specs.Lists.{ListedStep, IsDigraph, PutsUnder}
 use Rattle.conley_walk.proofs.WalkLemmas.{reaches_itself, reaches_on, reaches_by_step, reaches_least}
-use Rattle.conley_walk.proofs.ListLemmas.{Contains-none, step_begins}
+use Rattle.conley_lists.proofs.ListLemmas.{Contains-none, step_begins}
 use Rattle.conley_digraph.specs.Turning.{PutsUnderEach, IsTurnedSoFar, IsTurnedRound}
 
 -- no heads
@@ -14,7 +14,8 @@ pub put_none : (old : List (List ℕ)) (x : ℕ) → PutsUnderEach old old [] x
 put_none old x = record { count = refl; steps = λ a b. ((λ s. inl s), (λ s. elim s [ inl o ↦ o | inr h ↦ Contains-none a h.0 ])) }
 
 -- one head more
-pub put_more : (old mid new : List (List ℕ)) (heads : List ℕ) (y x : ℕ) → PutsUnderEach old mid heads x → PutsUnder mid new y x → PutsUnderEach old new (heads ++ y ∷ []) x
+pub put_more : (old mid new : List (List ℕ)) (heads : List ℕ) (y x : ℕ) → PutsUnderEach old mid heads x → PutsUnder mid new y x
+    → PutsUnderEach old new (heads ++ y ∷ []) x
 put_more old mid new heads y x so_far puts = record {
   count = puts.count ∙ so_far.count;
   steps = λ a b. (
@@ -37,7 +38,8 @@ turned_none lists turned count empty = record {
 }
 
 -- one node more
-pub turned_more : (lists old new : List (List ℕ)) (n : ℕ) → IsTurnedSoFar lists old n → PutsUnderEach old new (get_or lists n []) n → IsTurnedSoFar lists new (n + 1)
+pub turned_more : (lists old new : List (List ℕ)) (n : ℕ) → IsTurnedSoFar lists old n → PutsUnderEach old new (get_or lists n []) n
+    → IsTurnedSoFar lists new (n + 1)
 turned_more lists old new n so_far puts = record {
   count = puts.count ∙ so_far.count;
   steps = λ x y. (
@@ -66,6 +68,8 @@ turned_digraph lists turned t y x s = omega (arith, step_begins lists x y ((t.st
 -- a walk there is a walk back here
 pub turned_reach : (lists turned : List (List ℕ)) → IsTurnedRound lists turned → (x y : ℕ) → Reaches (ListedStep turned) x y ↔ Reaches (ListedStep lists) y x
 turned_reach lists turned t x y = (
-  (λ r. reaches_least (λ q. Reaches (ListedStep lists) q x) (λ a b s h. reaches_on (reaches_by_step {Step = ListedStep lists} {x = b} {y = a} ((t.steps b a).0 s)) h) r (reaches_itself x)),
-  (λ r. reaches_least (λ q. Reaches (ListedStep turned) q y) (λ a b s h. reaches_on (reaches_by_step {Step = ListedStep turned} {x = b} {y = a} ((t.steps a b).1 s)) h) r (reaches_itself y)),
+  (λ r. reaches_least (λ q. Reaches (ListedStep lists) q x) (λ a b s h. reaches_on (reaches_by_step {Step = ListedStep lists} {x = b} {y = a}
+      ((t.steps b a).0 s)) h) r (reaches_itself x)),
+  (λ r. reaches_least (λ q. Reaches (ListedStep turned) q y) (λ a b s h. reaches_on (reaches_by_step {Step = ListedStep turned} {x = b} {y = a}
+      ((t.steps a b).1 s)) h) r (reaches_itself y)),
 )

@@ -7,8 +7,9 @@
 --     AreRowsSoFar lists class_of order n rows      the classes of the first n nodes of the order have their rows
 --     AreRowsOf lists class_of rows                 each class has its row
 use Rattle.std.specs.Prelude.{◌≡◌, ◌≢◌, ◌⊎◌, ◌+◌, ◌/◌, ◌<◌, ◌↔◌, ℕ, List, [], Contains, length, slice_index, slice_index_or}
-use Rattle.conley_walk.specs.Walk.{Reaches}
-use Rattle.conley_walk.specs.Lists.{ListedStep}
+use Rattle.conley_walk.specs.Walk.{ReachesIn}
+use Rattle.conley_lists.specs.Lists.{ListedStep}
+use Rattle.conley_lists.specs.Gathered.{StayBelow, AreTaken}
 use Rattle.conley_order.specs.ClassRows.{word_bit}
 
 pub record IsClosingOrder (lists : List (List ℕ)) (class_of order : List ℕ) : Type 0 where
@@ -19,7 +20,7 @@ pub record IsClosingOrder (lists : List (List ℕ)) (class_of order : List ℕ) 
 
 pub record IsRowOf (lists : List (List ℕ)) (class_of : List ℕ) (count x : ℕ) (row : List ℕ) : Type 0 where
   pub width : length row ≡ count / 64 + 1
-  pub bits : (y : ℕ) → y < length lists → (word_bit row (slice_index class_of y) ≡ 1) ↔ Reaches (ListedStep lists) x y
+  pub bits : (y : ℕ) → y < length lists → (word_bit row (slice_index class_of y) ≡ 1) ↔ ReachesIn lists x y
 
 abbrev pub HaveRows : List (List ℕ) → List ℕ → List (List ℕ) → ℕ → Type 0
 HaveRows lists class_of rows x = (y : ℕ) → ListedStep lists x y →
@@ -28,8 +29,9 @@ HaveRows lists class_of rows x = (y : ℕ) → ListedStep lists x y →
 pub record IsRowSoFar (lists : List (List ℕ)) (class_of : List ℕ) (count class : ℕ) (row : List ℕ) : Type 0 where
   pub width : length row ≡ count / 64 + 1
   pub own : word_bit row class ≡ 1
-  pub sound : (x y : ℕ) → x < length lists → y < length lists → slice_index class_of x ≡ class → word_bit row (slice_index class_of y) ≡ 1 → Reaches (ListedStep lists) x y
-  pub full : (y z : ℕ) → y < length lists → z < length lists → slice_index class_of y ≢ class → word_bit row (slice_index class_of y) ≡ 1 → Reaches (ListedStep lists) y z → word_bit row (slice_index class_of z) ≡ 1
+  pub sound : (x y : ℕ) → x < length lists → y < length lists → slice_index class_of x ≡ class → word_bit row (slice_index class_of y) ≡ 1 → ReachesIn lists x y
+  pub full : (y z : ℕ) → y < length lists → z < length lists → slice_index class_of y ≢ class → word_bit row (slice_index class_of y) ≡ 1 → ReachesIn lists y z
+      → word_bit row (slice_index class_of z) ≡ 1
 
 pub record JoinsHeads (old new class_of heads : List ℕ) : Type 0 where
   pub kept : (b : ℕ) → word_bit old b ≡ 1 → word_bit new b ≡ 1
@@ -40,6 +42,6 @@ AreRowsSoFar lists class_of order n rows = (k x : ℕ) → k < n → x < length 
     IsRowOf lists class_of (length rows) x (slice_index_or rows (slice_index class_of x) [])
 
 pub record AreRowsOf (lists : List (List ℕ)) (class_of : List ℕ) (rows : List (List ℕ)) : Type 0 where
-  pub below : (x : ℕ) → x < length lists → slice_index class_of x < length rows
-  pub used : (c : ℕ) → c < length rows → (x : ℕ) × (x < length lists) × (slice_index class_of x ≡ c)
+  pub below : StayBelow (length rows) (length lists) class_of
+  pub used : AreTaken (length rows) (length lists) class_of
   pub row : (x : ℕ) → x < length lists → IsRowOf lists class_of (length rows) x (slice_index_or rows (slice_index class_of x) [])

@@ -13,8 +13,8 @@
 --     IsSearchOf lists s                  the same of a value of the code
 use Rattle.std.specs.Prelude.{◌≡◌, ◌⊎◌, ◌+◌, ◌<◌, ◌≤◌, ℕ, List, [], Contains, length, slice_index, slice_index_or}
 use Rattle.std.specs.List.Sorted.{IsStrictlyIncreasing}
-use Rattle.conley_walk.specs.Walk.{Reaches}
-use Rattle.conley_walk.specs.Lists.{ListedStep}
+use Rattle.conley_walk.specs.Walk.{ReachesIn}
+use Rattle.conley_lists.specs.Lists.{ListedStep, LieIn}
 use Rattle.conley_digraph.specs.declared.search.Search.{Search}
 use Rattle.conley_digraph.specs.declared.search.Stage.{Stage}
 use Rattle.conley_digraph.specs.declared.search.Stage.TheVariants.{New, Open, Closed}
@@ -43,12 +43,13 @@ pub record AreBounds (height : ℕ) (bounds path : List ℕ) : Type 0 where
   pub bounds_rise : IsStrictlyIncreasing bounds
   pub path_rises : IsStrictlyIncreasing path
   pub on_stack : (p : ℕ) → Contains path p → p < height
-  pub on_path : (b : ℕ) → Contains bounds b → Contains path b
+  pub on_path : LieIn path bounds
   pub first : 0 < height → Contains bounds 0
 
 -- each open node reaches those above it and those of its segment
 abbrev pub AreSegments : List (List ℕ) → List ℕ → List ℕ → Type 0
-AreSegments lists stack bounds = (p q : ℕ) → p < length stack → q < length stack → IsWithin bounds p q → Reaches (ListedStep lists) (slice_index stack q) (slice_index stack p)
+AreSegments lists stack bounds = (p q : ℕ) → p < length stack → q < length stack → IsWithin bounds p q
+    → ReachesIn lists (slice_index stack q) (slice_index stack p)
 
 -- a node wants one turn for each head that wasn't looked at, the last head first, and one to be left
 pub record AreTurns (lists : List (List ℕ)) (stages : List Stage) (turns stack bounds path : List ℕ) : Type 0 where
@@ -63,7 +64,7 @@ pub record AreTurns (lists : List (List ℕ)) (stages : List Stage) (turns stack
 -- steps of closed nodes lead to nodes that were closed before or together, and those closed together reach each other
 pub record AreClosed (lists : List (List ℕ)) (stages : List Stage) : Type 0 where
   pub steps : (x y k : ℕ) → stage_of stages x ≡ Closed k → ListedStep lists x y → (j : ℕ) × (j ≤ k) × (stage_of stages y ≡ Closed j)
-  pub same : (x y k : ℕ) → stage_of stages x ≡ Closed k → stage_of stages y ≡ Closed k → Reaches (ListedStep lists) x y
+  pub same : (x y k : ℕ) → stage_of stages x ≡ Closed k → stage_of stages y ≡ Closed k → ReachesIn lists x y
 
 pub record IsSearch (lists : List (List ℕ)) (stages : List Stage) (turns stack bounds path roots : List ℕ) : Type 0 where
   pub stages_are : AreStages (length lists) stages stack roots

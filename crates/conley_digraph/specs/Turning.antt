@@ -2,7 +2,7 @@
 --     PutsUnderEach old new heads x    the list of each head has x besides
 --     IsTurnedRound lists turned       a step leads from y to x where one led from x to y
 use Rattle.std.specs.Prelude.{◌≡◌, ◌⊎◌, ◌<◌, ◌↔◌, ℕ, List, Contains, length}
-use Rattle.conley_walk.specs.Lists.{ListedStep}
+use Rattle.conley_lists.specs.Lists.{ListedStep}
 
 pub record PutsUnderEach (old new : List (List ℕ)) (heads : List ℕ) (x : ℕ) : Type 0 where
   pub count : length new ≡ length old

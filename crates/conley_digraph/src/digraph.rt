@@ -3,7 +3,7 @@
 ghost use Rattle.std.specs.Prelude.{◌≡◌, ◌<◌, ◌≤◌, ◌^◌, ◌↔◌, ℕ, [], true, IfOk, length, slice_index, slice_index_or};
 ghost use Rattle.std.specs.List.Sorted.{IsStrictlyIncreasing};
 ghost use Rattle.conley_walk.specs.Walk.{Reaches};
-ghost use Rattle.conley_walk.specs.Lists.{items_of, ListedStep, IsDigraph, entries_of, IsFirstOutOfRange, IsOrderedCopy};
+ghost use Rattle.conley_lists.specs.Lists.{items_of, ListedStep, IsDigraph, entries_of, IsFirstOutOfRange, IsOrderedCopy};
 ghost use Rattle.conley_order.specs.ClassRows.{is_at_or_below};
 ghost use Rattle.conley_digraph.specs.Heads.{AreHeads};
 ghost use Rattle.conley_digraph.specs.Classes.{AreClasses};
@@ -12,8 +12,8 @@ use crate::numbering::{classes, renumbered};
 use crate::rows::class_rows;
 use crate::search::closing_of;
 use crate::{DigraphError, NoMemory};
+use conley_lists::{all_ordered, first_out_of_range};
 use conley_order::ReachRows;
-use conley_walk::{all_ordered, first_out_of_range};
 use std::alloc::Global;
 use std::marker::Model;
 
@@ -25,7 +25,7 @@ pub struct Digraph {
 
 impl Model for Digraph {
     ghost use Rattle.std.specs.Prelude.{ℕ, List};
-    ghost use Rattle.conley_walk.specs.Lists.{items_of};
+    ghost use Rattle.conley_lists.specs.Lists.{items_of};
     ghost use Rattle.conley_digraph.specs.Heads.{AreHeads};
 
     ghost Value = { List (List ℕ) };
@@ -78,7 +78,8 @@ impl Digraph {
     /// Reach of nodes by their classes: node a is at or below node b where a walk leads from b to a.
     pub fn reach_rows(&self, alloc: Global) -> Result<ReachRows, NoMemory>
         ensures classes { IfOk result (λ rows. AreClasses self.now rows.class_of) }
-        ensures reach { IfOk result (λ rows. (a b : ℕ) → a < length self.now → b < length self.now → (is_at_or_below rows a b ≡ true) ↔ Reaches (ListedStep self.now) b a) }
+        ensures reach { IfOk result (λ rows. (a b : ℕ) → a < length self.now → b < length self.now → (is_at_or_below rows a b ≡ true)
+            ↔ Reaches (ListedStep self.now) b a) }
     {
         let closing = closing_of(alloc, &self.heads)?;
         let class_of = renumbered(alloc, &closing.numbers, closing.roots.len())?;

@@ -1,7 +1,7 @@
 //! The numbers of classes of mutual reach.
 
 ghost use Rattle.std.specs.Prelude.{◌≡◌, ◌<◌, ◌≤◌, ◌^◌, ℕ, All, IfOk, length, slice_index};
-ghost use Rattle.conley_walk.specs.Lists.{items_of, IsDigraph};
+ghost use Rattle.conley_lists.specs.Lists.{items_of, IsDigraph};
 ghost use Rattle.conley_digraph.specs.Classes.{AreClasses};
 ghost use Rattle.conley_digraph.specs.Numbering.{IsRenumbered};
 

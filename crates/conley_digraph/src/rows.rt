@@ -1,12 +1,12 @@
 //! Rows of bits that say which classes reach which, each joined from the rows of the classes that its class steps into.
 
 ghost use Rattle.std.specs.Prelude.{◌≡◌, ◌<◌, ◌^◌, ◌↔◌, ℕ, [], All, Contains, IfOk, length, slice_index, slice_index_or};
-ghost use Rattle.conley_walk.specs.Lists.{items_of, IsDigraph};
+ghost use Rattle.conley_lists.specs.Lists.{items_of, IsDigraph};
 ghost use Rattle.conley_digraph.specs.Classes.{AreClasses};
 ghost use Rattle.conley_digraph.specs.Rows.{IsClosingOrder, IsRowOf, HaveRows, IsRowSoFar, JoinsHeads, AreRowsOf};
 
+use conley_lists::gathered;
 use conley_order::{has_bit, join_row, set_bit};
-use conley_walk::gathered;
 use std::alloc::{AllocError, Global};
 
 /// Joins the rows of the classes of the node's heads that the row doesn't have yet.
@@ -43,7 +43,8 @@ fn row_of(
     requires class { class < length rows.now }
     requires members { (x : ℕ) → Contains members.now x ↔ ((x < length steps.now) × (slice_index class_of.now x ≡ class)) }
     requires rows { (x : ℕ) → x < length steps.now → slice_index class_of.now x ≡ class → HaveRows (items_of steps.now) class_of.now (items_of rows.now) x }
-    ensures { IfOk result (λ row. (x : ℕ) → x < length steps.now → slice_index class_of.now x ≡ class → IsRowOf (items_of steps.now) class_of.now (length rows.now) x row.items) }
+    ensures { IfOk result (λ row. (x : ℕ) → x < length steps.now → slice_index class_of.now x ≡ class
+        → IsRowOf (items_of steps.now) class_of.now (length rows.now) x row.items) }
 {
     let mut row = vec![in alloc; 0u64; rows.len() / 64 + 1]?;
     set_bit(&mut row, class as usize);

@@ -2,7 +2,7 @@
 
 ghost use Rattle.std.specs.Prelude.{◌≡◌, ◌<◌, ◌^◌, ℕ, All, IfOk, OnOk, length};
 ghost use Rattle.std.specs.List.Sorted.{IsStrictlyIncreasing};
-ghost use Rattle.conley_walk.specs.Lists.{items_of, IsDigraph};
+ghost use Rattle.conley_lists.specs.Lists.{items_of, IsDigraph};
 ghost use Rattle.conley_digraph.specs.Search.{stage_of, IsMet, IsSearchOf};
 ghost use Rattle.conley_digraph.specs.Turn.{Merges, ClosesAll, Meets, Passes, Closes, Leaves, IsTurned};
 ghost use Rattle.conley_digraph.specs.Closing.{AreNumbers, AreClosing};

@@ -1,10 +1,10 @@
 //! Digraphs turned round.
 
 ghost use Rattle.std.specs.Prelude.{◌<◌, ◌^◌, All, IfOk, OnOk, length};
-ghost use Rattle.conley_walk.specs.Lists.{items_of, IsDigraph};
+ghost use Rattle.conley_lists.specs.Lists.{items_of, IsDigraph};
 ghost use Rattle.conley_digraph.specs.Turning.{PutsUnderEach, IsTurnedRound};
 
-use conley_walk::{empty_lists, put_under};
+use conley_lists::{empty_lists, put_under};
 use std::alloc::{AllocError, Global};
 
 /// Puts x at the end of the list of each head.

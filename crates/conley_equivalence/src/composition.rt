@@ -19,7 +19,8 @@ pub fn identity<F: Field>(alloc: Global, field: &F, n: usize) -> Result<Equivale
     requires { n ≤ 2 ^ 32 }
     ensures maps { IfOk result (λ e. maps_of e ≡ identity_maps n) }
     ensures tables { IfOk result (AreTables (F.arithmetic field.now) n n) }
-    ensures law { IfOk result (λ e. (cells : ℕ) (test : ℕ → ℕ → Bool) (C : Generators) → IsPreorder cells test → C.count ≡ n → IsGradedComplex (F.arithmetic field.now) (IsBelow cells test) C → IsGradedEquivalence (F.arithmetic field.now) (IsBelow cells test) C C (maps_of e)) }
+    ensures law { IfOk result (λ e. (cells : ℕ) (test : ℕ → ℕ → Bool) (C : Generators) → IsPreorder cells test → C.count ≡ n
+        → IsGradedComplex (F.arithmetic field.now) (IsBelow cells test) C → IsGradedEquivalence (F.arithmetic field.now) (IsBelow cells test) C C (maps_of e)) }
 {
     Ok(Equivalence {
         phi: Matrix::identity(alloc, field, n)?,
@@ -40,7 +41,10 @@ pub fn compose<F: Field>(
     requires second { AreTables (F.arithmetic field.now) (column_count first.now.phi) (column_count second.now.phi) second.now }
     ensures maps { IfOk result (λ e. maps_of e ≡ composed (F.arithmetic field.now) (column_count first.now.phi) (maps_of first.now) (maps_of second.now)) }
     ensures tables { IfOk result (AreTables (F.arithmetic field.now) first.now.phi.rows (column_count second.now.phi)) }
-    ensures law { IfOk result (λ e. (cells : ℕ) (test : ℕ → ℕ → Bool) (A B C : Generators) → IsPreorder cells test → B.count ≡ column_count first.now.phi → IsGradedEquivalence (F.arithmetic field.now) (IsBelow cells test) A B (maps_of first.now) → IsGradedEquivalence (F.arithmetic field.now) (IsBelow cells test) B C (maps_of second.now) → IsGradedEquivalence (F.arithmetic field.now) (IsBelow cells test) A C (maps_of e)) }
+    ensures law { IfOk result (λ e. (cells : ℕ) (test : ℕ → ℕ → Bool) (A B C : Generators) → IsPreorder cells test → B.count ≡ column_count first.now.phi
+        → IsGradedEquivalence (F.arithmetic field.now) (IsBelow cells test) A B (maps_of first.now)
+        → IsGradedEquivalence (F.arithmetic field.now) (IsBelow cells test) B C (maps_of second.now)
+        → IsGradedEquivalence (F.arithmetic field.now) (IsBelow cells test) A C (maps_of e)) }
 {
     let phi = first.phi.product(alloc, field, &second.phi)?;
     let psi = second.psi.product(alloc, field, &first.psi)?;
@@ -81,7 +85,9 @@ fn plus_product<F: Field>(
     requires left { IsTable (F.arithmetic field.now) left.now.rows (column_count middle.now) left.now }
     requires middle { IsTable (F.arithmetic field.now) (column_count middle.now) (column_count middle.now) middle.now }
     requires right { IsTable (F.arithmetic field.now) (column_count middle.now) (column_count right.now) right.now }
-    ensures entries { IfOk result (λ sum. (row column : ℕ) → entry sum row column ≡ plus_of (F.arithmetic field.now) (entry to.now) (product_of (F.arithmetic field.now) (column_count middle.now) (product_of (F.arithmetic field.now) (column_count middle.now) (entry left.now) (entry middle.now)) (entry right.now)) row column) }
+    ensures entries { IfOk result (λ sum. (row column : ℕ) → entry sum row column ≡ plus_of (F.arithmetic field.now) (entry to.now)
+        (product_of (F.arithmetic field.now) (column_count middle.now) (product_of (F.arithmetic field.now) (column_count middle.now) (entry left.now)
+        (entry middle.now)) (entry right.now)) row column) }
     ensures table { IfOk result (IsTable (F.arithmetic field.now) left.now.rows (column_count right.now)) }
 {
     let half = left.product(alloc, field, middle)?;

@@ -54,7 +54,8 @@ pub(crate) fn rest_matrix<F: Field>(
     q: u32,
 ) -> Result<Matrix, NoMemory>
     requires { IsPairOf (F.arithmetic field.now) n matrix.now k q }
-    ensures entries { IfOk result (λ rest. (i j : ℕ) → entry rest i j ≡ rest_entry (F.arithmetic field.now) (entry matrix.now) k q (other k q i) (other k q j)) }
+    ensures entries { IfOk result (λ rest. (i j : ℕ) → entry rest i j ≡ rest_entry (F.arithmetic field.now) (entry matrix.now) k q (other k q i)
+        (other k q j)) }
     ensures table { IfOk result (IsTable (F.arithmetic field.now) (n - 2) (n - 2)) }
 {
     let mut columns = Vec::new(alloc);
@@ -184,7 +185,8 @@ fn negative_inverse_of_boundary<F: Field>(
     q: u32,
 ) -> Result<Chain, NoMemory>
     requires { IsPairOf (F.arithmetic field.now) n matrix.now k q }
-    ensures entries { IfOk result (λ image. (x : ℕ) → coefficient image x ≡ (F.arithmetic field.now).neg ((F.arithmetic field.now).mul ((F.arithmetic field.now).inv (entry matrix.now q k)) (entry matrix.now x k))) }
+    ensures entries { IfOk result (λ image. (x : ℕ) → coefficient image x ≡ (F.arithmetic field.now).neg
+        ((F.arithmetic field.now).mul ((F.arithmetic field.now).inv (entry matrix.now q k)) (entry matrix.now x k))) }
     ensures codes { IfOk result (HasCodes (F.arithmetic field.now)) }
 {
     let by = field.neg(field.inv(matrix.entry(q, k)));

@@ -32,8 +32,10 @@ pub fn of_pair<'g, F: Field, G: Grading>(
     ensures grading { IfOk result (λ r. r.0.grading ≡ graded.now.grading) }
     ensures pair { IfOk result (λ r. ArePairFormulas (F.arithmetic graded.now.field) (generators_of graded.now) k q (generators_of r.0) (maps_of r.1)) }
     ensures tables { IfOk result (λ r. AreTables (F.arithmetic graded.now.field) (length graded.now.base) (length r.0.base) r.1) }
-    ensures reduction { IfOk result (λ r. IsReducedTo (F.arithmetic graded.now.field) (IsBelow (G.cell_count graded.now.grading) (G.is_below graded.now.grading)) (generators_of graded.now) (generators_of r.0) (maps_of r.1)) }
-    ensures step { IfOk result (λ r. IsPairStep (F.arithmetic graded.now.field) (IsBelow (G.cell_count graded.now.grading) (G.is_below graded.now.grading)) (generators_of graded.now) k q (generators_of r.0) (other k q) (maps_of r.1)) }
+    ensures reduction { IfOk result (λ r. IsReducedTo (F.arithmetic graded.now.field) (IsBelow (G.cell_count graded.now.grading)
+        (G.is_below graded.now.grading)) (generators_of graded.now) (generators_of r.0) (maps_of r.1)) }
+    ensures step { IfOk result (λ r. IsPairStep (F.arithmetic graded.now.field) (IsBelow (G.cell_count graded.now.grading) (G.is_below graded.now.grading))
+        (generators_of graded.now) k q (generators_of r.0) (other k q) (maps_of r.1)) }
 {
     let rest = rest_complex(alloc, graded, k, q)?;
     let maps = pair_maps(alloc, graded.field(), graded.matrix(), graded.count(), k, q)?;
@@ -52,7 +54,8 @@ fn rest_complex<'g, F: Field, G: Grading>(
     ensures grading { IfOk result (λ rest. rest.grading ≡ graded.now.grading) }
     ensures base { IfOk result (λ rest. IsWithoutPair k q graded.now.base rest.base) }
     ensures dims { IfOk result (λ rest. IsWithoutPair k q graded.now.dims rest.dims) }
-    ensures boundary { IfOk result (λ rest. (i j : ℕ) → entry rest.matrix i j ≡ rest_entry (F.arithmetic graded.now.field) (entry graded.now.matrix) k q (other k q i) (other k q j)) }
+    ensures boundary { IfOk result (λ rest. (i j : ℕ) → entry rest.matrix i j ≡ rest_entry (F.arithmetic graded.now.field) (entry graded.now.matrix) k q
+        (other k q i) (other k q j)) }
 {
     let matrix = rest_matrix(alloc, graded.field(), graded.matrix(), graded.count(), k, q)?;
     let base = other_bases(alloc, graded, k, q)?;

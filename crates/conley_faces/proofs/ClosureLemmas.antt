@@ -8,9 +8,9 @@ use Rattle.std.proofs.lemmas.List.{take_more, take-append-drop}
 use Rattle.std.proofs.lemmas.List.Sums.{sum_by-set}
 use Rattle.std.proofs.lemmas.List.Elements.{Contains-append_left, Contains-append_right, Contains-append_cases, Contains-push, Contains-push_cases}
 use Rattle.conley_walk.specs.Walk.{Reaches}
-use Rattle.conley_walk.specs.Lists.{ListedStep, IsDigraph}
+use Rattle.conley_lists.specs.Lists.{ListedStep, IsDigraph}
 use Rattle.conley_walk.proofs.WalkLemmas.{reaches_itself, reaches_on, reaches_by_step, reaches_least}
-use Rattle.conley_walk.proofs.ListLemmas.{step_begins}
+use Rattle.conley_lists.proofs.ListLemmas.{step_begins}
 use Rattle.conley_faces.specs.Face.{IsFace, IsBelowItself, IsInClosure}
 use Rattle.conley_faces.specs.Closures.{IsMade, IsInListOf, AreClosures, AreClosuresSoFar, IsStuck, unmade_one, unmade}
 use Rattle.conley_faces.proofs.FaceLemmas.{face_itself, face_under, face_cases, face_ends}
@@ -135,7 +135,8 @@ abbrev IsUnder : List (List ℕ) → ℕ → ℕ → Type 0
 IsUnder lists x y = (z : ℕ) × ListedStep lists x z × Reaches (ListedStep lists) z y
 
 -- what each of its cells hands on to a cell directly under it holds of none, where no cell is below itself
-module _ (lists : List (List ℕ)) (no_cycle : (x : ℕ) → IsBelowItself lists x → ⊥) (P : ℕ → Type 0) (on : (x : ℕ) → P x → (y : ℕ) × (ListedStep lists x y × P y)) where
+module _ (lists : List (List ℕ)) (no_cycle : (x : ℕ) → IsBelowItself lists x → ⊥) (P : ℕ → Type 0)
+    (on : (x : ℕ) → P x → (y : ℕ) × (ListedStep lists x y × P y)) where
   -- the cells under x are in the list
   ends : (n : ℕ) (left : List ℕ) → length left ≤ n → (x : ℕ) → P x → ((y : ℕ) → IsUnder lists x y → Contains left y) → ⊥
   ends zero left le x p all =
@@ -180,13 +181,15 @@ module _ (lists closures : List (List ℕ)) (digraph : IsDigraph lists) (so_far 
   }
 
 -- what stands in a closure that is made is a cell
-pub closures_in_range : (lists closures : List (List ℕ)) → IsDigraph lists → AreClosuresSoFar lists closures → (x y : ℕ) → ListedStep closures x y → y < length lists
+pub closures_in_range : (lists closures : List (List ℕ)) → IsDigraph lists → AreClosuresSoFar lists closures → (x y : ℕ) → ListedStep closures x y
+    → y < length lists
 closures_in_range lists closures digraph so_far x y s =
     let made : IsMade closures x = omega (arith, s.1) in
     face_ends lists digraph x y ((so_far.faces x y made).0 s)
 
 -- the lists of the cells of a set hold its closure
-pub closure_listed : (lists closures : List (List ℕ)) → AreClosures lists closures → (set : List ℕ) (y : ℕ) → IsInListOf closures set y ↔ IsInClosure lists set y
+pub closure_listed : (lists closures : List (List ℕ)) → AreClosures lists closures → (set : List ℕ) (y : ℕ) → IsInListOf closures set y
+    ↔ IsInClosure lists set y
 closure_listed lists closures are set y = (
   (λ g. (g.0, g.1.0, (are.faces g.0 y).0 g.1.1)),
   (λ g. (g.0, (g.1, (are.faces g.0 y).1 g.2))),

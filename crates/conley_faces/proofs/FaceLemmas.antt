@@ -2,9 +2,9 @@
 use Rattle.std.proofs.Common.{◌≡◌, ◌⊎◌, inl, inr, ◌<◌, ℕ, List, length}
 use Rattle.std.specs.Prelude.{Contains}
 use Rattle.std.proofs.lemmas.List.Elements.{All-contains}
-use Rattle.conley_walk.specs.Lists.{ListedStep, IsDigraph, IsOrderedCopy}
+use Rattle.conley_lists.specs.Lists.{ListedStep, IsDigraph, IsOrderedCopy}
 use Rattle.conley_walk.proofs.WalkLemmas.{reaches_itself, reaches_on, reaches_by_step, reaches_least, reaches_cases, reaches_more}
-use Rattle.conley_walk.proofs.ListLemmas.{step_begins}
+use Rattle.conley_lists.proofs.ListLemmas.{step_begins}
 use Rattle.conley_faces.specs.Face.{IsFace, IsCellList, IsClosed, IsBelowItself, IsLeastBelowItself}
 
 -- each cell is a face of itself
@@ -31,7 +31,8 @@ pub face_ends : (lists : List (List ℕ)) → IsDigraph lists → (x y : ℕ) �
 face_ends lists ok x y f = reaches_least (λ q. q < length lists) (λ a b s h. ok a b s) f.walk f.cell
 
 -- a set of cells that has the faces of its cells is closed
-pub closed_by_faces : (lists : List (List ℕ)) (set : List ℕ) → IsCellList lists set → ((x y : ℕ) → Contains set x → IsFace lists x y → Contains set y) → IsClosed lists set
+pub closed_by_faces : (lists : List (List ℕ)) (set : List ℕ) → IsCellList lists set → ((x y : ℕ) → Contains set x → IsFace lists x y → Contains set y)
+    → IsClosed lists set
 closed_by_faces lists set are all y = (
   (λ c. (y, c, face_itself lists y (All-contains (λ q. q < length lists) set y are.cells c))),
   (λ g. all g.0 y g.1 g.2),
@@ -42,7 +43,8 @@ pub faces_in_closed : (lists : List (List ℕ)) (set : List ℕ) → IsClosed li
 faces_in_closed lists set closed x y c f = (closed y).1 (x, c, f)
 
 -- lists with more steps have more cells below themselves
-pub below_same : (copy lists : List (List ℕ)) → ((x y : ℕ) → ListedStep copy x y → ListedStep lists x y) → (x : ℕ) → IsBelowItself copy x → IsBelowItself lists x
+pub below_same : (copy lists : List (List ℕ)) → ((x y : ℕ) → ListedStep copy x y → ListedStep lists x y) → (x : ℕ) → IsBelowItself copy x
+    → IsBelowItself lists x
 below_same copy lists same x b = (b.0, same x b.0 b.1, reaches_more same b.2)
 
 -- what is in order has the same cells below themselves

@@ -4,9 +4,9 @@ use Rattle.std.specs.Prelude.{Contains}
 use Rattle.std.proofs.lemmas.Bool.{cases_eq}
 use Rattle.std.proofs.lemmas.List.Elements.{Contains-append_left, Contains-append_right, Contains-append_cases, Contains-push_cases, Contains-push}
 use Rattle.conley_walk.specs.Walk.{Walk, Reaches}
-use Rattle.conley_walk.specs.Lists.{ListedStep}
+use Rattle.conley_lists.specs.Lists.{ListedStep}
 use Rattle.conley_walk.proofs.WalkLemmas.{reaches_on}
-use Rattle.conley_walk.proofs.ListLemmas.{Contains-none}
+use Rattle.conley_lists.proofs.ListLemmas.{Contains-none}
 use Rattle.conley_faces.specs.Face.{IsLocallyClosed}
 
 -- a list contains a number, or not
@@ -26,7 +26,8 @@ contains_cases (y ∷ set) x = elim (cases_eq x y) [
 module _ (lists : List (List ℕ)) (set : List ℕ)
     (stays : (x y z : ℕ) → Contains set x → ListedStep lists x y → ¬ Contains set y → Contains set z → ¬ Reaches (ListedStep lists) y z) where
   -- a walk from the set to a cell from which one leads back stays in the set
-  walk_stays : (x : ℕ) (w : List ℕ) (y z : ℕ) → Walk (ListedStep lists) x w y → Contains set x → Contains set z → Reaches (ListedStep lists) y z → Contains set y
+  walk_stays : (x : ℕ) (w : List ℕ) (y z : ℕ) → Walk (ListedStep lists) x w y → Contains set x → Contains set z → Reaches (ListedStep lists) y z
+      → Contains set y
   walk_stays x [] y z e c d back = subst (Contains set) e c
   walk_stays x (b ∷ w) y z steps c d back = elim (contains_cases set b) [
     | inl inside ↦ walk_stays b w y z steps.1 inside d back

@@ -5,8 +5,8 @@ use Rattle.std.proofs.Math.ListN.{set, replicate}
 use Rattle.std.proofs.lemmas.Bool.{cases_eq, false≢true}
 use Rattle.std.proofs.lemmas.List.{take_more}
 use Rattle.std.proofs.lemmas.List.Elements.{Contains-append_left, Contains-append_right, Contains-append_cases, Contains-push, Contains-push_cases}
-use Rattle.conley_walk.specs.Lists.{IsMarked, ListedStep}
-use Rattle.conley_walk.proofs.ListLemmas.{place_of, Contains-none}
+use Rattle.conley_lists.specs.Lists.{IsMarked, ListedStep}
+use Rattle.conley_lists.proofs.ListLemmas.{place_of, Contains-none}
 use Rattle.conley_walk.proofs.SearchLemmas.{IsMarked-set, IsMarked-set_cases, unmarked_row}
 use Rattle.conley_faces.specs.Closures.{IsInListOf, AreMarked, IsUnmarked}
 
@@ -67,7 +67,8 @@ taken-old before list taken h had so_far y = (
 )
 
 -- the list of one cell more is taken
-pub listed-more : (lists : List (List ℕ)) (cells : List ℕ) (i : ℕ) (before after : List ℕ) → i < length cells → ((y : ℕ) → Contains before y ↔ IsInListOf lists (take i cells) y) →
+pub listed-more : (lists : List (List ℕ)) (cells : List ℕ) (i : ℕ) (before after : List ℕ) → i < length cells
+    → ((y : ℕ) → Contains before y ↔ IsInListOf lists (take i cells) y) →
     AreTaken before (get_or lists (get_or cells i 0) []) after → (y : ℕ) → Contains after y ↔ IsInListOf lists (take (i + 1) cells) y
 listed-more lists cells i before after lt so_far are y = rw (take_more cells i 0 lt) (
   (λ c. elim ((are y).0 c) [
@@ -82,7 +83,10 @@ listed-more lists cells i before after lt so_far are y = rw (take_more cells i 0
 
 -- a list joined to what was there is taken
 pub taken-append : (before list : List ℕ) → AreTaken before list (before ++ list)
-taken-append before list y = ((λ c. Contains-append_cases before list y c), (λ d. elim d [ inl b ↦ Contains-append_left before list y b | inr l ↦ Contains-append_right before list y l ]))
+taken-append before list y = (
+  (λ c. Contains-append_cases before list y c),
+  (λ d. elim d [ inl b ↦ Contains-append_left before list y b | inr l ↦ Contains-append_right before list y l ]),
+)
 
 -- no cell, no list
 pub listed-none : (lists : List (List ℕ)) (y : ℕ) → Contains {X = ℕ} [] y ↔ IsInListOf lists [] y
@@ -94,7 +98,8 @@ pub record AreLeft (list : List ℕ) (i : ℕ) (before now : List Bool) : Type 0
   pub gone : (y k : ℕ) → k < i → get_or list k 0 ≡ y → ¬ IsMarked now y
 
 -- the mark of one number more is gone
-pub left-more : (list : List ℕ) (i : ℕ) (before now : List Bool) → get_or list i 0 < length now → AreLeft list i before now → AreLeft list (i + 1) before (set now (get_or list i 0) false)
+pub left-more : (list : List ℕ) (i : ℕ) (before now : List Bool) → get_or list i 0 < length now → AreLeft list i before now
+    → AreLeft list (i + 1) before (set now (get_or list i 0) false)
 left-more list i before now lt left = record {
   kept = λ y m. elim (cases_eq y (get_or list i 0)) [
     | inl e ↦ absurd (unmarked y e m)

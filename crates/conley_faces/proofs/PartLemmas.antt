@@ -4,7 +4,7 @@ use Rattle.std.specs.Prelude.{Contains}
 use Rattle.std.specs.List.Sorted.{IsStrictlyIncreasing}
 use Rattle.std.proofs.lemmas.List.{take_more, get_or-take, length-take}
 use Rattle.std.proofs.lemmas.List.Elements.{Contains-push, Contains-push_cases, Contains-append_left, Contains-get_or}
-use Rattle.conley_walk.proofs.ListLemmas.{Contains-none, place_of, rises, increasing-push}
+use Rattle.conley_lists.proofs.ListLemmas.{Contains-none, place_of, rises, increasing-push}
 use Rattle.conley_faces.specs.Closures.{IsPart}
 
 -- a number of the first k is less than number k of an ascending list
@@ -23,7 +23,8 @@ module _ (P : ℕ → Type 0) (list part : List ℕ) (k : ℕ) (lt : k < length 
   -- it meets the predicate
   pub part-more : P (get_or list k 0) → IsPart P (take (k + 1) list) (part ++ get_or list k 0 ∷ [])
   part-more p = record {
-    ascending = increasing-push part x so_far.ascending (λ i d below. before_less list k (get_or part i d) up lt ((so_far.same (get_or part i d)).0 (Contains-get_or part i d below)).0);
+    ascending = increasing-push part x so_far.ascending (λ i d below. before_less list k (get_or part i d) up lt
+        ((so_far.same (get_or part i d)).0 (Contains-get_or part i d below)).0);
     same = λ y. rw (take_more list k 0 lt) (
       (λ c. elim (Contains-push_cases part x y c) [
         | inl old ↦ let h = (so_far.same y).0 old in (Contains-append_left (take k list) (x ∷ []) y h.0, h.1)

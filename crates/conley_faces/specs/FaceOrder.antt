@@ -1,9 +1,8 @@
 -- What every value of `Faces` is.
 --     IsFaceOrder direct             ascending lists of the cells directly under each cell, by which no cell is below itself
 -- The wording is this project's own.
-use Rattle.std.specs.Prelude.{◌+◌, ◌<◌, ◌^◌, ℕ, List, [], length, slice_index_or}
-use Rattle.std.specs.List.Sorted.{IsStrictlyIncreasing}
-use Rattle.conley_walk.specs.Lists.{IsDigraph, entries_of}
+use Rattle.std.specs.Prelude.{◌+◌, ◌<◌, ◌^◌, ℕ, List, length}
+use Rattle.conley_lists.specs.Lists.{IsDigraph, entries_of, AllAscend}
 use Rattle.conley_faces.specs.Face.{IsBelowItself}
 
 pub record IsFaceOrder (direct : List (List ℕ)) : Type 0 where
@@ -11,5 +10,5 @@ pub record IsFaceOrder (direct : List (List ℕ)) : Type 0 where
   pub few : length direct + length (entries_of direct) < 2 ^ 32
   -- what stands directly under a cell is a cell
   pub digraph : IsDigraph direct
-  pub ascending : (x : ℕ) → IsStrictlyIncreasing (slice_index_or direct x [])
+  pub ascending : AllAscend direct
   pub no_cycle : (x : ℕ) → ¬ IsBelowItself direct x

@@ -2,13 +2,14 @@
 
 ghost use Rattle.std.specs.Prelude.{◌≡◌, ◌<◌, ◌^◌, ◌↔◌, ◌⊎◌, All, ℕ, [], OnOk, IfOk, IfSome, IsTrue, true, false, Contains, length, slice_index_or};
 ghost use Rattle.std.specs.List.Sorted.{IsStrictlyIncreasing};
-ghost use Rattle.conley_walk.specs.Lists.{items_of, ListedStep, IsDigraph};
+ghost use Rattle.conley_lists.specs.Lists.{items_of, ListedStep, IsDigraph};
 ghost use Rattle.conley_faces.specs.Face.{IsBelowItself, IsLeastBelowItself};
 ghost use Rattle.conley_faces.specs.Closures.{IsMade, IsInListOf, AreClosuresSoFar, IsStuck, IsUnmarked, unmade};
 
 use crate::NoMemory;
 use crate::lists::{marked, unmark};
-use conley_walk::{empty_lists, ordered, reached_from};
+use conley_lists::{empty_lists, ordered};
+use conley_walk::reached_from;
 use std::alloc::Global;
 
 /// Whether the closures of all these cells are made.

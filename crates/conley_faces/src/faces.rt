@@ -3,14 +3,14 @@
 ghost use Rattle.std.specs.Prelude.{◌≡◌, ◌+◌, ◌<◌, ◌≤◌, ◌^◌, ◌↔◌, ℕ, [], OnOk, IfOk, IfSome, IfNone, IsNone, IsTrue, true, false, Contains, length, slice_index_or};
 ghost use Rattle.std.specs.List.Sorted.{IsStrictlyIncreasing};
 ghost use Rattle.conley_walk.specs.Walk.{Reaches};
-ghost use Rattle.conley_walk.specs.Lists.{items_of, ListedStep, IsDigraph, entries_of, IsFirstOutOfRange, IsOrderedCopy};
+ghost use Rattle.conley_lists.specs.Lists.{items_of, ListedStep, IsDigraph, entries_of, IsFirstOutOfRange, IsOrderedCopy};
 ghost use Rattle.conley_faces.specs.Face.{IsFace, IsCellList, IsGap, IsFirstGap, IsLocallyClosed, IsInClosure, IsInMouth, IsBelowItself, IsLeastBelowItself};
 ghost use Rattle.conley_faces.specs.FaceOrder.{IsFaceOrder};
 
 use crate::closures::{least_below_itself, made_closures};
 use crate::lists::{first_common, gathered, left_out};
 use crate::{FacesError, NoMemory};
-use conley_walk::{all_ordered, first_out_of_range, ordered, stands_in};
+use conley_lists::{all_ordered, first_out_of_range, ordered, stands_in};
 use std::alloc::Global;
 use std::marker::Model;
 
@@ -23,7 +23,7 @@ pub struct Faces {
 
 impl Model for Faces {
     ghost use Rattle.std.specs.Prelude.{ℕ, List};
-    ghost use Rattle.conley_walk.specs.Lists.{items_of};
+    ghost use Rattle.conley_lists.specs.Lists.{items_of};
     ghost use Rattle.conley_faces.specs.Closures.{IsFaceTable};
 
     ghost Value = { List (List ℕ) };

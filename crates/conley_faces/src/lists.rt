@@ -2,11 +2,11 @@
 
 ghost use Rattle.std.specs.Prelude.{◌≡◌, ◌<◌, ◌≤◌, ◌↔◌, ◌⊎◌, All, ℕ, OnOk, IfOk, IfSome, IfNone, IsTrue, Contains, length};
 ghost use Rattle.std.specs.List.Sorted.{IsStrictlyIncreasing};
-ghost use Rattle.conley_walk.specs.Lists.{items_of, ListedStep};
+ghost use Rattle.conley_lists.specs.Lists.{items_of, ListedStep};
 ghost use Rattle.conley_faces.specs.Closures.{IsInListOf, IsPart, AreMarked, IsUnmarked};
 
 use crate::NoMemory;
-use conley_walk::stands_in;
+use conley_lists::stands_in;
 use std::alloc::Global;
 
 /// Takes the numbers of the list that have no mark, and marks them.

@@ -54,4 +54,5 @@ residue_laws p above inverses = record {
   whole x = let below : x % p < p = mod_below x p (omega arith) in omega arith
 
 pub residues-IsField : (p : ℕ) → IsTrue (is_prime_order p) → IsField (residues p)
-residues-IsField p h = residue_laws p (ltb-true 1 p (listed (λ q. nat_lt 1 q) prime_orders p h all_above_one)) (listed has_inverses prime_orders p h all_have_inverses)
+residues-IsField p h = residue_laws p (ltb-true 1 p (listed (λ q. nat_lt 1 q) prime_orders p h all_above_one))
+    (listed has_inverses prime_orders p h all_have_inverses)

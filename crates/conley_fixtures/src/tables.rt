@@ -1,5 +1,5 @@
 ghost use Rattle.std.specs.Prelude.{◌+◌, ◌<◌, ◌^◌, IfOk, length};
-ghost use Rattle.conley_walk.specs.Lists.{items_of, entries_of};
+ghost use Rattle.conley_lists.specs.Lists.{items_of, entries_of};
 
 use std::alloc::Global;
 use std::test::Fail;

@@ -1,10 +1,10 @@
 ghost use Rattle.std.specs.Prelude.{◌≡◌, ◌<◌, ◌≤◌, IfOk, length};
-ghost use Rattle.conley_walk.specs.Lists.{items_of, entries_of};
+ghost use Rattle.conley_lists.specs.Lists.{items_of, entries_of};
 
 use conley_digraph::{Digraph, DigraphError, turned_round};
 use conley_fixtures::lists_of;
+use conley_lists::first_out_of_range;
 use conley_order::Grading;
-use conley_walk::first_out_of_range;
 use std::alloc::{AllocError, Global};
 use std::test::Fail;
 

@@ -2,7 +2,7 @@ ghost use Rattle.conley_faces.specs.Face.{IsCellList};
 
 use conley_field::{PrimeField, Scalar};
 use conley_fixtures::triangle;
-use conley_homology::{Homology, is_regular, numbers, relative};
+use conley_homology::{Homology, are_zero, is_regular, numbers, relative};
 use conley_lefschetz::Complex;
 use std::alloc::Global;
 use std::test::Fail;
@@ -25,7 +25,7 @@ fn numbers_of(alloc: Global, complex: &Complex<PrimeField>, set: &[u32]) -> Resu
         return Err("a gap".into());
     }
     let numbers = numbers(alloc, complex, set)?;
-    if is_regular(alloc, complex, set)? != numbers.iter().all(|r| *r == 0) {
+    if is_regular(alloc, complex, set)? != are_zero(&numbers) {
         return Err("regular and critical".into());
     }
     Ok(numbers)

@@ -7,8 +7,8 @@ use conley_field::PrimeField;
 use conley_fixtures::{lists_of, triangle};
 use conley_isolation::{SetReport, invariant_part, isolated, report};
 use conley_lefschetz::Complex;
+use conley_lists::ordered;
 use conley_mvf::Partition;
-use conley_walk::ordered;
 use std::alloc::Global;
 use std::test::Fail;
 

@@ -2,7 +2,7 @@ ghost use Rattle.std.specs.Prelude.{◌≡◌, IfOk, length};
 
 use conley_faces::Faces;
 use conley_fixtures::lists_of;
-use conley_mvf::{PartError, Partition, first_unknown};
+use conley_mvf::{PartError, Partition, first_empty, first_unknown};
 use std::alloc::Global;
 use std::test::Fail;
 
@@ -92,6 +92,13 @@ fn the_first_fault_is_told(rt: HostRuntime) -> Result<(), Fail> {
     for (rows, fault) in &FAULTS {
         assert!(rt; fault_of(rt.alloc(), rows)? == Some(*fault));
     }
+    Ok(())
+}
+
+#[test]
+fn the_first_list_without_cells_is_found(rt: HostRuntime) -> Result<(), Fail> {
+    let lists = lists_of(rt.alloc(), &[&[3], &[], &[]])?;
+    assert!(rt; first_empty(&lists) == Some(1));
     Ok(())
 }
 

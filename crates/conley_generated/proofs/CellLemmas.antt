@@ -6,8 +6,8 @@ use Rattle.std.proofs.lemmas.List.Edits.{length-remove}
 use Rattle.std.proofs.lemmas.Bool.{cases_lt, cases_order, cases_Bool, false_from_ne_true, false≢true}
 use Rattle.std.proofs.lemmas.Slice.Eq.{bytes_eq-Decides}
 use Rattle.std.proofs.lemmas.List.{get_or_default, get_or-map, length-map, length-append, get_or_append_left, get_or-append_right}
-use Rattle.conley_walk.proofs.ContainsLemmas.{Contains-rest, Contains-cases}
-use Rattle.conley_generated.specs.Making.{AreApart}
+use Rattle.conley_lists.proofs.ContainsLemmas.{Contains-rest, Contains-cases}
+use Rattle.conley_lists.specs.Lists.{AreApart}
 
 pub test_true : (s t : List ℕ) → s ≡ t → bytes_eq s t ≡ true
 test_true s t e = (bytes_eq-Decides s t).1 e
@@ -56,10 +56,12 @@ module _ {X : Type 0} (R : X → X → Type 0) where
             elim (cases_lt i (length xs)) [
               | inl first ↦
                   let a = get_or_append_left xs ys d i first in
-                  subst (λ u. R u (get_or (xs ++ ys) j d)) (sym a) (subst (R (get_or xs i d)) (sym b) (across i d first (j - length xs) d (omega (arith, lt, long, in_right))))
+                  subst (λ u. R u (get_or (xs ++ ys) j d)) (sym a) (subst (R (get_or xs i d)) (sym b)
+                  (across i d first (j - length xs) d (omega (arith, lt, long, in_right))))
               | inr second ↦
                   let a = get_or-append_right xs ys (length xs) i d refl second in
-                  subst (λ u. R u (get_or (xs ++ ys) j d)) (sym a) (subst (R (get_or ys (i - length xs) d)) (sym b) (right (i - length xs) (j - length xs) d (omega (arith, less, second)) (omega (arith, lt, long, in_right))))
+                  subst (λ u. R u (get_or (xs ++ ys) j d)) (sym a) (subst (R (get_or ys (i - length xs) d)) (sym b)
+                  (right (i - length xs) (j - length xs) d (omega (arith, less, second)) (omega (arith, lt, long, in_right))))
             ]
       ]
 
@@ -71,11 +73,14 @@ places_same cells apart i j lt lt' e = elim (cases_order i j) [
   | inr other ↦ elim other [ inl less ↦ absurd (apart i j [] less lt' e) | inr more ↦ absurd (apart j i [] more lt (sym e)) ]
 ]
 
-pub place_in : (cells : List (List ℕ)) (s : List ℕ) → Contains cells s → (position_or_len (bytes_eq s) cells < length cells) × (get_or cells (position_or_len (bytes_eq s) cells) [] ≡ s)
+pub place_in : (cells : List (List ℕ)) (s : List ℕ) → Contains cells s → (position_or_len (bytes_eq s) cells < length cells)
+    × (get_or cells (position_or_len (bytes_eq s) cells) [] ≡ s)
 place_in [] s c = Contains-empty s c
 place_in (t ∷ cells) s c = by (λ later. place_in cells s later) (bytes_eq s t) refl
   where
-    by : (Contains cells s → (position_or_len (bytes_eq s) cells < length cells) × (get_or cells (position_or_len (bytes_eq s) cells) [] ≡ s)) → (b : Bool) → bytes_eq s t ≡ b → (cond (not b) (1 + position_or_len (bytes_eq s) cells) 0 < length (t ∷ cells)) × (get_or (t ∷ cells) (cond (not b) (1 + position_or_len (bytes_eq s) cells) 0) [] ≡ s)
+    by : (Contains cells s → (position_or_len (bytes_eq s) cells < length cells) × (get_or cells (position_or_len (bytes_eq s) cells) [] ≡ s)) → (b : Bool)
+        → bytes_eq s t ≡ b → (cond (not b) (1 + position_or_len (bytes_eq s) cells) 0 < length (t ∷ cells))
+        × (get_or (t ∷ cells) (cond (not b) (1 + position_or_len (bytes_eq s) cells) 0) [] ≡ s)
     by more true e = (omega arith, sym ((bytes_eq-Decides s t).0 e))
     by more false e = elim (Contains-cases t cells s c) [
       | inl same ↦ absurd (false≢true (sym e ∙ test_true s t same))
@@ -85,7 +90,8 @@ place_in (t ∷ cells) s c = by (λ later. place_in cells s later) (bytes_eq s t
           (omega (arith, rest.0), ap (λ k. get_or (t ∷ cells) k []) one ∙ rest.1)
     ]
 
-pub place_once : (cells : List (List ℕ)) → AreApart cells → (k : ℕ) → k < length cells → (s : List ℕ) → get_or cells k [] ≡ s → position_or_len (bytes_eq s) cells ≡ k
+pub place_once : (cells : List (List ℕ)) → AreApart cells → (k : ℕ) → k < length cells → (s : List ℕ) → get_or cells k [] ≡ s
+    → position_or_len (bytes_eq s) cells ≡ k
 place_once cells apart k lt s e =
     let there = place_in cells s (k, lt, get_or_default cells k s [] lt ∙ e) in
     places_same cells apart _ k there.0 lt (there.1 ∙ sym e)

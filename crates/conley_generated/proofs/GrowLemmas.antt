@@ -10,10 +10,10 @@ use Rattle.std.proofs.lemmas.List.{map-append, get_or_append_left, length-append
 use Rattle.std.proofs.lemmas.List.Elements.{All-nil, All-append, All-weaker, Contains-append_left, Contains-append_right, Contains-push, Contains-push_cases}
 use Rattle.std.proofs.lemmas.List.Quantifiers.{all_pairs_push}
 use Rattle.std.proofs.lemmas.Slice.Eq.{bytes_eq-Decides}
-use Rattle.conley_walk.specs.Lists.{items_of}
+use Rattle.conley_lists.specs.Lists.{items_of}
 use Rattle.conley_generated.specs.Making.{Grows, AddsCell, AddsCells, faces_of}
 use Rattle.conley_generated.specs.Rule.{only_cells}
-use Rattle.conley_walk.proofs.ContainsLemmas.{Contains-rest, Contains-cases}
+use Rattle.conley_lists.proofs.ContainsLemmas.{Contains-rest, Contains-cases}
 use Rattle.conley_generated.proofs.CellLemmas.{Contains-empty, test_true}
 
 -- a cell that is added at the end
@@ -67,14 +67,16 @@ grows_on a b c xs ys first second = record {
 
 -- ---- a set of cells in memory
 
-pub contains_tested : (keys : List (Vec ℕ Global)) (s : List ℕ) → list_any (λ (key : Vec ℕ Global). bytes_eq s key.items) keys ≡ true → Contains (items_of keys) s
+pub contains_tested : (keys : List (Vec ℕ Global)) (s : List ℕ) → list_any (λ (key : Vec ℕ Global). bytes_eq s key.items) keys ≡ true
+    → Contains (items_of keys) s
 contains_tested [] s e = absurd (false≢true e)
 contains_tested (key ∷ keys) s e = elim (or_cases (bytes_eq s key.items) (list_any (λ (key : Vec ℕ Global). bytes_eq s key.items) keys) e) [
   | inl here ↦ (0, omega arith, sym ((bytes_eq-Decides s key.items).0 here))
   | inr later ↦ Contains-rest key.items (items_of keys) s (contains_tested keys s later)
 ]
 
-pub tested_contains : (keys : List (Vec ℕ Global)) (s : List ℕ) → Contains (items_of keys) s → list_any (λ (key : Vec ℕ Global). bytes_eq s key.items) keys ≡ true
+pub tested_contains : (keys : List (Vec ℕ Global)) (s : List ℕ) → Contains (items_of keys) s
+    → list_any (λ (key : Vec ℕ Global). bytes_eq s key.items) keys ≡ true
 tested_contains [] s c = Contains-empty s c
 tested_contains (key ∷ keys) s c = elim (Contains-cases key.items (items_of keys) s c) [
   | inl e ↦ or_left (bytes_eq s key.items) (list_any (λ (key : Vec ℕ Global). bytes_eq s key.items) keys) (test_true s key.items e)
@@ -82,17 +84,26 @@ tested_contains (key ∷ keys) s c = elim (Contains-cases key.items (items_of ke
 ]
 
 pub adds_cell : (keys new : List (Vec ℕ Global)) (cell : Vec ℕ Global)
-    → new ≡ cond (list_any (λ (key : Vec ℕ Global). bytes_eq cell.items key.items) keys) keys (keys ++ cell ∷ []) → AddsCell (items_of keys) (items_of new) cell.items
+    → new ≡ cond (list_any (λ (key : Vec ℕ Global). bytes_eq cell.items key.items) keys) keys (keys ++ cell ∷ [])
+    → AddsCell (items_of keys) (items_of new) cell.items
 adds_cell keys new cell is = by (list_any (λ (key : Vec ℕ Global). bytes_eq cell.items key.items) keys) refl is
   where
-    by : (b : Bool) → list_any (λ (key : Vec ℕ Global). bytes_eq cell.items key.items) keys ≡ b → new ≡ cond b keys (keys ++ cell ∷ []) → AddsCell (items_of keys) (items_of new) cell.items
+    by : (b : Bool) → list_any (λ (key : Vec ℕ Global). bytes_eq cell.items key.items) keys ≡ b → new ≡ cond b keys (keys ++ cell ∷ [])
+        → AddsCell (items_of keys) (items_of new) cell.items
     by true e same =
         let there = contains_tested keys cell.items e in
-        record { grows = subst (λ (n : List (List ℕ)). Grows (items_of keys) n (cell.items ∷ [])) (sym (ap items_of same)) (grows_same (items_of keys) cell.items there); fresh = λ none. absurd (none there) }
+        record {
+          grows = subst (λ (n : List (List ℕ)). Grows (items_of keys) n (cell.items ∷ [])) (sym (ap items_of same))
+              (grows_same (items_of keys) cell.items there);
+          fresh = λ none. absurd (none there);
+        }
     by false e same =
         let none : Contains (items_of keys) cell.items → ⊥ = λ c. false≢true (sym e ∙ tested_contains keys cell.items c) in
         let grown : items_of new ≡ items_of keys ++ cell.items ∷ [] = ap items_of same ∙ map-append (λ (key : Vec ℕ Global). key.items) keys (cell ∷ []) in
-        record { grows = subst (λ (n : List (List ℕ)). Grows (items_of keys) n (cell.items ∷ [])) (sym grown) (grows_push (items_of keys) cell.items none); fresh = λ _. grown }
+        record {
+          grows = subst (λ (n : List (List ℕ)). Grows (items_of keys) n (cell.items ∷ [])) (sym grown) (grows_push (items_of keys) cell.items none);
+          fresh = λ _. grown;
+        }
 
 -- ---- one after another
 
@@ -117,12 +128,14 @@ pub items_of-append : (xs ys : List (Vec ℕ Global)) → items_of (xs ++ ys) �
 items_of-append xs ys = map-append (λ (cell : Vec ℕ Global). cell.items) xs ys
 
 -- a cell that is read by its number
-pub cell_read : (keys : List (Vec ℕ Global)) (k : ℕ) (cell : Vec ℕ Global) (items : List ℕ) → slice_get keys k ≡ Some cell → items ≡ cell.items → get_or (items_of keys) k [] ≡ items
+pub cell_read : (keys : List (Vec ℕ Global)) (k : ℕ) (cell : Vec ℕ Global) (items : List ℕ) → slice_get keys k ≡ Some cell → items ≡ cell.items
+    → get_or (items_of keys) k [] ≡ items
 cell_read keys k cell items e same =
     get_or-map (λ (key : Vec ℕ Global). key.items) keys k cell [] (slice_get_within keys k cell e)
     ∙ ap (λ (key : Vec ℕ Global). key.items) (get_or_from_slice_get keys k cell cell e) ∙ sym same
 
 -- the number of a cell, as a set in memory finds it
-pub number_found : (keys : List (Vec ℕ Global)) (s : List ℕ) (k : ℕ) → position (λ (key : Vec ℕ Global). bytes_eq s key.items) keys ≡ Some k → position_or_len (bytes_eq s) (items_of keys) ≡ k
+pub number_found : (keys : List (Vec ℕ Global)) (s : List ℕ) (k : ℕ) → position (λ (key : Vec ℕ Global). bytes_eq s key.items) keys ≡ Some k
+    → position_or_len (bytes_eq s) (items_of keys) ≡ k
 number_found keys s k e =
     position_or_len-map (λ (key : Vec ℕ Global). key.items) (bytes_eq s) keys ∙ position_found (λ (key : Vec ℕ Global). bytes_eq s key.items) keys k (sym e)

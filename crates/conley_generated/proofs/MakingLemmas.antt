@@ -3,6 +3,7 @@ use Rattle.std.proofs.Common.{◌≡◌, inl, inr, ◌<◌, ◌≤◌, ℕ, List
 use Rattle.std.specs.Prelude.{All, Contains, ◌↔◌}
 use Rattle.std.proofs.lemmas.List.{length-map}
 use Rattle.std.proofs.lemmas.List.Elements.{All-contains, All-weaker}
+use Rattle.conley_lists.specs.Lists.{AreApart}
 use Rattle.conley_field.specs.Arithmetic.{Arithmetic, IsField}
 use Rattle.conley_first.specs.First.{Precedes}
 use Rattle.conley_generated.specs.Rule.{Rule, IsRule, only_cells}
@@ -12,7 +13,7 @@ use Rattle.conley_lefschetz.specs.Complex.{Layout, IsComplexOf}
 use Rattle.conley_lefschetz.specs.declared.error.ComplexError.{ComplexError}
 use Rattle.conley_generated.specs.Generated.{IsUnder, AreInOrder, AreCellsUnder, IsGenerated}
 use Rattle.conley_generated.specs.Generated.IsUnder.{seed, face}
-use Rattle.conley_generated.specs.Making.{AreApart, AreFound, triples_below}
+use Rattle.conley_generated.specs.Making.{AreFound, triples_below}
 use Rattle.conley_generated.proofs.CellLemmas.{All-contained, contains_at}
 use Rattle.conley_generated.proofs.ListingLemmas.{IsSound, triples_sound, triples_value, triples_upper, triples_lower, faultless}
 
@@ -22,7 +23,8 @@ not_before_itself (x ∷ a) before = elim before [ inl less ↦ absurd (omega ar
 
 pub ordered_apart : (rule : Rule) (cells : List (List ℕ)) → AreInOrder rule cells → AreApart cells
 ordered_apart rule cells ordered i j d less lt e =
-    not_before_itself (rule.dim (get_or cells j d) ∷ get_or cells j d) (subst (λ (s : List ℕ). Precedes (rule.dim s ∷ s) (rule.dim (get_or cells j d) ∷ get_or cells j d)) e (ordered i j d less lt))
+    not_before_itself (rule.dim (get_or cells j d) ∷ get_or cells j d) (subst (λ (s : List ℕ). Precedes (rule.dim s ∷ s)
+    (rule.dim (get_or cells j d) ∷ get_or cells j d)) e (ordered i j d less lt))
 
 module _ {IsCell : List ℕ → Type 0} (rule : Rule) (is : IsRule IsCell rule) (seeds : List (List ℕ)) (cells_given : All IsCell seeds) where
   pub under_cell : (s : List ℕ) → IsUnder rule seeds s → IsCell s
@@ -54,7 +56,8 @@ module _ {IsCell : List ℕ → Type 0} (rule : Rule) (is : IsRule IsCell rule) 
 
       -- what is listed in memory is the listing
       module _ (F : Arithmetic) (laws : IsField F) (labels : List (List ℕ)) (dims : List ℕ) (incidences : List (ℕ × ℕ × ℕ))
-          (labels_are : labels ≡ map rule.label cells) (dims_are : dims ≡ map rule.dim cells) (incidences_are : incidences ≡ triples_below F rule cells (length cells)) where
+          (labels_are : labels ≡ map rule.label cells) (dims_are : dims ≡ map rule.dim cells)
+          (incidences_are : incidences ≡ triples_below F rule cells (length cells)) where
         cells_once : AreApart cells
         cells_once = ordered_apart rule cells ordered
 
@@ -71,7 +74,8 @@ module _ {IsCell : List ℕ → Type 0} (rule : Rule) (is : IsRule IsCell rule) 
         pub listed_count : length labels ≡ length dims
         listed_count = ap length labels_are ∙ length-map cells rule.label ∙ sym (ap length dims_are ∙ length-map cells rule.dim)
 
-        pub generated : length cells ≡ length found → (c : Layout) → IsComplexOf F (record { labels = labels; dims = dims; incidences = incidences }) c → IsGenerated F rule seeds most c
+        pub generated : length cells ≡ length found → (c : Layout) → IsComplexOf F (record { labels = labels; dims = dims; incidences = incidences }) c
+            → IsGenerated F rule seeds most c
         generated count c complex = record {
           cells = cells;
           are = cells_under;

@@ -6,7 +6,7 @@ use Rattle.std.proofs.lemmas.Bool.{cases_lt, cases_order}
 use Rattle.conley_field.specs.Arithmetic.{Arithmetic}
 use Rattle.conley_chains.specs.Matrix.{entry}
 use Rattle.conley_first.specs.First.{Precedes}
-use Rattle.conley_walk.proofs.AscendingLemmas.{ascending_once}
+use Rattle.conley_lists.proofs.AscendingLemmas.{ascending_once}
 use Rattle.conley_lefschetz.specs.Complex.{Layout, IsLayout}
 use Rattle.conley_lefschetz.proofs.OnceLemmas.{same_layouts}
 
@@ -41,10 +41,12 @@ below_cases P decided (suc n) = elim (below_cases P decided n) [
   ]
 ]
 
-module _ (F : Arithmetic) (label : List ℕ → List ℕ) (dim : List ℕ → ℕ) (a b : Layout) (laws : IsLayout F a) (laws' : IsLayout F b) (cells others : List (List ℕ)) (same : cells ≡ others)
+module _ (F : Arithmetic) (label : List ℕ → List ℕ) (dim : List ℕ → ℕ) (a b : Layout) (laws : IsLayout F a) (laws' : IsLayout F b)
+    (cells others : List (List ℕ)) (same : cells ≡ others)
     (labels : a.labels ≡ map label cells) (labels' : b.labels ≡ map label others) (dims : a.dims ≡ map dim cells) (dims' : b.dims ≡ map dim others)
     (inside : (x y : ℕ) → x < length cells → y < length cells → entry a.boundary y x ≡ entry b.boundary y x)
-    (beyond : (x y : ℕ) → (length cells ≤ x) ⊎ (length cells ≤ y) → entry a.boundary y x ≡ 0) (beyond' : (x y : ℕ) → (length others ≤ x) ⊎ (length others ≤ y) → entry b.boundary y x ≡ 0) where
+    (beyond : (x y : ℕ) → (length cells ≤ x) ⊎ (length cells ≤ y) → entry a.boundary y x ≡ 0)
+    (beyond' : (x y : ℕ) → (length others ≤ x) ⊎ (length others ≤ y) → entry b.boundary y x ≡ 0) where
   out : (x y : ℕ) → (length cells ≤ x) ⊎ (length cells ≤ y) → entry a.boundary y x ≡ entry b.boundary y x
   out x y past = beyond x y past ∙ sym (beyond' x y (subst (λ (l : List (List ℕ)). (length l ≤ x) ⊎ (length l ≤ y)) same past))
 

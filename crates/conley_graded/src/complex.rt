@@ -38,7 +38,8 @@ impl<'g, F: Field, G: Grading> Model for GradedComplex<'g, F, G> {
 
     ghost view = { λ c. record { field = c.field; grading = c.grading.now; base = c.base.items; dims = c.dims.items; matrix = c.matrix } };
 
-    ghost invariant = { λ c. IsFiltered (F.arithmetic c.field) (G.cell_count c.grading.now) (G.is_below c.grading.now) c.base.items c.dims.items c.matrix × IsPreorder (G.cell_count c.grading.now) (G.is_below c.grading.now) };
+    ghost invariant = { λ c. IsFiltered (F.arithmetic c.field) (G.cell_count c.grading.now) (G.is_below c.grading.now) c.base.items c.dims.items c.matrix
+        × IsPreorder (G.cell_count c.grading.now) (G.is_below c.grading.now) };
 }
 
 impl<'g, F: Field, G: Grading> GradedComplex<'g, F, G> {
@@ -68,7 +69,8 @@ impl<'g, F: Field, G: Grading> GradedComplex<'g, F, G> {
         ensures count { result ≡ length self.now.base }
         ensures fits { result ≤ 2 ^ 32 }
         ensures order { IsPreorder (G.cell_count self.now.grading) (G.is_below self.now.grading) }
-        ensures filtered { IsFiltered (F.arithmetic self.now.field) (G.cell_count self.now.grading) (G.is_below self.now.grading) self.now.base self.now.dims self.now.matrix }
+        ensures filtered { IsFiltered (F.arithmetic self.now.field) (G.cell_count self.now.grading) (G.is_below self.now.grading) self.now.base self.now.dims
+            self.now.matrix }
     {
         count_of(&self.base)
     }
@@ -114,7 +116,8 @@ impl<'g, F: Field, G: Grading> GradedComplex<'g, F, G> {
     /// The first column `K` and row `Q` with an entry between generators of one grade, by columns, then by rows. It takes no memory.
     pub fn first_inside(&self) -> Option<(u32, u32)>
         ensures none { IsNone result ↔ IsStrict (IsBelow (G.cell_count self.now.grading) (G.is_below self.now.grading)) (generators_of self.now) }
-        ensures first { IfSome result (λ pair. IsFirstInside (IsBelow (G.cell_count self.now.grading) (G.is_below self.now.grading)) (generators_of self.now) pair.0 pair.1) }
+        ensures first { IfSome result (λ pair. IsFirstInside (IsBelow (G.cell_count self.now.grading) (G.is_below self.now.grading)) (generators_of self.now)
+            pair.0 pair.1) }
     {
         for k in 0..self.count() {
             if let Some(q) = self.first_row_inside(k as u32) {
@@ -127,10 +130,12 @@ impl<'g, F: Field, G: Grading> GradedComplex<'g, F, G> {
     /// The first row of column `k` with an entry between generators of one grade.
     fn first_row_inside(&self, k: u32) -> Option<u32>
         requires { k < length self.now.base }
-        ensures none { IsNone result → (q : ℕ) → ¬ IsInside (IsBelow (G.cell_count self.now.grading) (G.is_below self.now.grading)) (generators_of self.now) k q }
-        ensures first { IfSome result (λ q. IsFirstRowInside (IsBelow (G.cell_count self.now.grading) (G.is_below self.now.grading)) (generators_of self.now) k q) }
+        ensures none { IsNone result → (q : ℕ) → ¬ IsInside (IsBelow (G.cell_count self.now.grading) (G.is_below self.now.grading)) (generators_of self.now) k
+            q }
+        ensures first { IfSome result (λ q. IsFirstRowInside (IsBelow (G.cell_count self.now.grading) (G.is_below self.now.grading)) (generators_of self.now) k
+            q) }
     {
-        let _count = self.count();
+        let _filtered = self.count();
         let base = self.base(k);
         for e in self.matrix().column(k).entries() {
             if self.grading().below(base, self.base(e.0)) {

@@ -50,16 +50,20 @@ module _ (Q : ℕ → Type 0) where
       distinct = λ i j i_below j_below same. elim (cases_eq i (length list)) [
         | inl i_last ↦ elim (cases_eq j (length list)) [
           | inl j_last ↦ i_last ∙ sym j_last
-          | inr other ↦ (let x = at_last i i_last in let y = at_old j (omega (arith, count)) in let w = a.listing.within j (omega (arith, count)) in absurd (omega arith))
+          | inr other ↦ (let x = at_last i i_last in let y = at_old j (omega (arith, count)) in let w = a.listing.within j (omega (arith, count)) in
+              absurd (omega arith))
         ]
         | inr i_other ↦ elim (cases_eq j (length list)) [
-          | inl j_last ↦ (let x = at_last j j_last in let y = at_old i (omega (arith, count)) in let w = a.listing.within i (omega (arith, count)) in absurd (omega arith))
-          | inr j_other ↦ a.listing.distinct i j (omega (arith, count)) (omega (arith, count)) (sym (at_old i (omega (arith, count))) ∙ same ∙ at_old j (omega (arith, count)))
+          | inl j_last ↦ (let x = at_last j j_last in let y = at_old i (omega (arith, count)) in let w = a.listing.within i (omega (arith, count)) in
+              absurd (omega arith))
+          | inr j_other ↦ a.listing.distinct i j (omega (arith, count)) (omega (arith, count))
+              (sym (at_old i (omega (arith, count))) ∙ same ∙ at_old j (omega (arith, count)))
         ]
       ];
       all = λ g below here. elim (cases_eq g n) [
         | inl e ↦ (length list, (omega (arith, count), at_last (length list) refl ∙ sym e))
-        | inr other ↦ let found = a.listing.all g (omega arith) here in let found_below : found.0 < length list = found.1.0 in (found.0, (omega (arith, count), at_old found.0 found_below ∙ found.1.1))
+        | inr other ↦ let found = a.listing.all g (omega arith) here in let found_below : found.0 < length list = found.1.0 in
+            (found.0, (omega (arith, count), at_old found.0 found_below ∙ found.1.1))
       ];
     };
   } where
@@ -85,8 +89,14 @@ module _ (kept : List (List (ℕ × ℕ))) (Q : ℕ → Type 0) where
   pub collected-none : (before : List (List (ℕ × ℕ))) → IsCollected kept Q 0 0 before before
   collected-none before = record { list = []; list_count = refl; listed = listed-none Q; items = sym (append-nil before) }
 
-  pub collected-other : (n count : ℕ) (before after : List (List (ℕ × ℕ))) → (Q n → ⊥) → IsCollected kept Q n count before after → IsCollected kept Q (n + 1) count before after
-  collected-other n count before after no_more c = record { list = c.list; list_count = c.list_count; listed = listed-other Q n c.list no_more c.listed; items = c.items }
+  pub collected-other : (n count : ℕ) (before after : List (List (ℕ × ℕ))) → (Q n → ⊥) → IsCollected kept Q n count before after
+      → IsCollected kept Q (n + 1) count before after
+  collected-other n count before after no_more c = record {
+    list = c.list;
+    list_count = c.list_count;
+    listed = listed-other Q n c.list no_more c.listed;
+    items = c.items;
+  }
 
   pub collected-more : (n count : ℕ) (before after : List (List (ℕ × ℕ))) → Q n → IsCollected kept Q n count before after
       → IsCollected kept Q (n + 1) (count + 1) before (after ++ get_or kept n [] ∷ [])
@@ -94,7 +104,8 @@ module _ (kept : List (List (ℕ × ℕ))) (Q : ℕ → Type 0) where
     list = c.list ++ n ∷ [];
     list_count = length-append c.list (n ∷ []) ∙ ap (λ (k : ℕ). k + 1) c.list_count;
     listed = listed-more Q n c.list is c.listed;
-    items = ap (λ (xs : List (List (ℕ × ℕ))). xs ++ get_or kept n [] ∷ []) c.items ∙ append_assoc before (map (λ j. slice_index_or kept j []) c.list) (get_or kept n [] ∷ [])
+    items = ap (λ (xs : List (List (ℕ × ℕ))). xs ++ get_or kept n [] ∷ []) c.items ∙ append_assoc before (map (λ j. slice_index_or kept j []) c.list)
+        (get_or kept n [] ∷ [])
         ∙ ap (λ (xs : List (List (ℕ × ℕ))). before ++ xs) (sym (map-append (λ j. slice_index_or kept j []) c.list (n ∷ [])));
   }
 
@@ -107,12 +118,14 @@ module _ (Q : ℕ → ℕ → Type 0) (n : ℕ) where
   pub numbers-none : AreCounted Q n 0 []
   numbers-none = record { levels = refl; counts = λ k below. absurd (omega arith) }
 
-  pub numbers-more : (level count : ℕ) (numbers : List ℕ) → AreCounted Q n level numbers → IsCounted (Q level) n count → AreCounted Q n (level + 1) (numbers ++ count ∷ [])
+  pub numbers-more : (level count : ℕ) (numbers : List ℕ) → AreCounted Q n level numbers → IsCounted (Q level) n count
+      → AreCounted Q n (level + 1) (numbers ++ count ∷ [])
   numbers-more level count numbers a c = record {
     levels = length-append numbers (count ∷ []) ∙ ap (λ (k : ℕ). k + 1) a.levels;
     counts = λ k below. elim (cases_eq k level) [
       | inl last ↦
-          let number : get_or (numbers ++ count ∷ []) k 0 ≡ count = ap (λ (j : ℕ). get_or (numbers ++ count ∷ []) j 0) (last ∙ sym a.levels) ∙ get_or-append_seam numbers count [] 0 in
+          let number : get_or (numbers ++ count ∷ []) k 0 ≡ count = ap (λ (j : ℕ). get_or (numbers ++ count ∷ []) j 0) (last ∙ sym a.levels)
+          ∙ get_or-append_seam numbers count [] 0 in
           rw (number, last) c
       | inr other ↦ rw (get_or_append_left numbers (count ∷ []) 0 k (let e = a.levels in omega arith)) (a.counts k (omega arith))
     ];
@@ -122,7 +135,8 @@ module _ (Q : ℕ → ℕ → Type 0) (n : ℕ) where
 pub record IsGathered (kept : List (List (ℕ × ℕ))) (Q : ℕ → ℕ → Type 0) (n level : ℕ) (numbers : List ℕ) (cycles : List (List (ℕ × ℕ))) : Type 0 where
   pub levels : length numbers ≡ level
   pub total : length cycles ≡ sum numbers
-  pub lists : (k : ℕ) → k < level → (list : ℕ → ℕ) × (IsListing n (Q k) (get_or numbers k 0) list × ((i : ℕ) → i < get_or numbers k 0 → get_or cycles (sum (take k numbers) + i) [] ≡ get_or kept (list i) []))
+  pub lists : (k : ℕ) → k < level → (list : ℕ → ℕ) × (IsListing n (Q k) (get_or numbers k 0) list
+      × ((i : ℕ) → i < get_or numbers k 0 → get_or cycles (sum (take k numbers) + i) [] ≡ get_or kept (list i) []))
 
 module _ (kept : List (List (ℕ × ℕ))) (Q : ℕ → ℕ → Type 0) (n : ℕ) where
   pub gathered-none : IsGathered kept Q n 0 [] []
@@ -134,7 +148,8 @@ module _ (kept : List (List (ℕ × ℕ))) (Q : ℕ → ℕ → Type 0) (n : ℕ
     levels = length-append numbers (count ∷ []) ∙ ap (λ (k : ℕ). k + 1) g.levels;
     total =
         ap (λ (xs : List (List (ℕ × ℕ))). length xs) c.items ∙ length-append cycles (map (λ j. slice_index_or kept j []) c.list)
-        ∙ (let a = length-map c.list (λ (j : ℕ). get_or kept j []) in let b = c.list_count in let t = g.total in let s = sum_by-append (λ (x : ℕ). x) numbers (count ∷ []) in omega arith);
+        ∙ (let a = length-map c.list (λ (j : ℕ). get_or kept j []) in let b = c.list_count in let t = g.total in let s =
+        sum_by-append (λ (x : ℕ). x) numbers (count ∷ []) in omega arith);
     lists = λ k below. elim (cases_eq k level) [
       | inl last ↦ (
         (λ i. get_or c.list i 0),
@@ -162,14 +177,17 @@ module _ (kept : List (List (ℕ × ℕ))) (Q : ℕ → ℕ → Type 0) (n : ℕ
     number-old k below = get_or_append_left numbers (count ∷ []) 0 k (let e = g.levels in omega arith)
 
     start-last : (k : ℕ) → k ≡ level → sum (take k (numbers ++ count ∷ [])) ≡ length cycles
-    start-last k last = ap (λ (j : ℕ). sum (take j (numbers ++ count ∷ []))) (last ∙ sym g.levels) ∙ ap (λ (xs : List ℕ). sum xs) (take-append_seam numbers (count ∷ [])) ∙ sym g.total
+    start-last k last = ap (λ (j : ℕ). sum (take j (numbers ++ count ∷ []))) (last ∙ sym g.levels)
+        ∙ ap (λ (xs : List ℕ). sum xs) (take-append_seam numbers (count ∷ [])) ∙ sym g.total
 
     cycle-last : (k i : ℕ) → k ≡ level → i < count → get_or cycles' (sum (take k (numbers ++ count ∷ [])) + i) [] ≡ get_or kept (get_or c.list i 0) []
     cycle-last k i last below =
         ap (λ (j : ℕ). get_or cycles' (j + i) []) (start-last k last) ∙ ap (λ (xs : List (List (ℕ × ℕ))). get_or xs (length cycles + i) []) c.items
-        ∙ get_or-append-add cycles (map (λ j. slice_index_or kept j []) c.list) i [] ∙ get_or-map (λ (j : ℕ). get_or kept j []) c.list i 0 [] (let e = c.list_count in omega arith)
+        ∙ get_or-append-add cycles (map (λ j. slice_index_or kept j []) c.list) i [] ∙ get_or-map (λ (j : ℕ). get_or kept j []) c.list i 0 []
+        (let e = c.list_count in omega arith)
 
-    cycle-old : (k i : ℕ) → k < level → i < get_or numbers k 0 → get_or cycles' (sum (take k (numbers ++ count ∷ [])) + i) [] ≡ get_or cycles (sum (take k numbers) + i) []
+    cycle-old : (k i : ℕ) → k < level → i < get_or numbers k 0 → get_or cycles' (sum (take k (numbers ++ count ∷ [])) + i) [] ≡ get_or cycles
+        (sum (take k numbers) + i) []
     cycle-old k i below i_below =
         ap (λ (xs : List ℕ). get_or cycles' (sum xs + i) []) (take-append-le k numbers (count ∷ []) (let e = g.levels in omega arith))
         ∙ ap (λ (xs : List (List (ℕ × ℕ))). get_or xs (sum (take k numbers) + i) []) c.items

@@ -13,11 +13,11 @@ use Rattle.conley_homotopy.specs.Restriction.{IsClosedAround, own_boundary}
 use Rattle.conley_homotopy.proofs.ExcisionLemmas.{excision}
 use Rattle.conley_chains.specs.Chain.{coefficient}
 use Rattle.conley_chains.specs.Matrix.{Table, entry, column_count}
-use Rattle.conley_walk.specs.Lists.{ListedStep}
+use Rattle.conley_lists.specs.Lists.{ListedStep, is_listed}
 use Rattle.conley_walk.proofs.WalkLemmas.{reaches_itself, reaches_on, reaches_by_step}
 use Rattle.conley_faces.specs.Face.{IsCellList, IsInClosure, IsInMouth, IsLocallyClosed}
 use Rattle.conley_homology.specs.Reduced.{IsFree}
-use Rattle.conley_homology.specs.Own.{is_listed, own_entries, place_in, owner_at, vector_at, IsOwnComplex, IsReducedSoFar}
+use Rattle.conley_homology.specs.Own.{own_entries, place_in, owner_at, vector_at, IsOwnComplex, IsReducedSoFar}
 use Rattle.conley_lefschetz.specs.Listing.{dim_in}
 use Rattle.conley_lefschetz.specs.Conley.{IsRelativeCycle, IsRelativeBoundary, IsConleyBasis, AreConleyNumbers}
 use Rattle.conley_homology.specs.Homology.{cycle_at, IsHomology}
@@ -28,7 +28,8 @@ use Rattle.conley_homology.proofs.CollectedLemmas.{AreCounted, IsGathered, same-
 use Rattle.conley_homology.proofs.StateLemmas.{all_done}
 
 -- the complex of a set's own cells is one
-module _ {F : Arithmetic} (laws : IsField F) (n : ℕ) (d : Entries) (inside : ℕ → Bool) (closure mouth : ℕ → Type 0) (shape : IsClosedAround d inside closure mouth) where
+module _ {F : Arithmetic} (laws : IsField F) (n : ℕ) (d : Entries) (inside : ℕ → Bool) (closure mouth : ℕ → Type 0)
+    (shape : IsClosedAround d inside closure mouth) where
   own-inside : (y x : ℕ) → inside y ≡ true → inside x ≡ true → own_boundary inside d y x ≡ d y x
   own-inside y x row column = ap (λ b. cond b (cond (inside x) (d y x) 0) 0) row ∙ ap (λ b. cond b (d y x) 0) column
 
@@ -46,15 +47,18 @@ module _ {F : Arithmetic} (laws : IsField F) (n : ℕ) (d : Entries) (inside : �
     | inl none ↦ ap (λ t. F.mul t (d y z)) none ∙ sums.zero-mul laws (d y z)
     | inr some ↦ elim (cases_eq (d y z) 0) [
       | inl none ↦ ap (F.mul (d x y)) none ∙ sums.mul-zero laws (d x y)
-      | inr other ↦ absurd (true≢false (sym x_in ∙ shape.mouth_faces x y some (shape.rest_mouth y (shape.closure_faces y z other (shape.inside_closure z z_in)) y_out)))
+      | inr other ↦ absurd (true≢false (sym x_in ∙ shape.mouth_faces x y some (shape.rest_mouth y (shape.closure_faces y z other (shape.inside_closure z z_in))
+          y_out)))
     ]
   ]
 
   pub own-squares : SameEntries (product_of F n d d) zero_entries → SameEntries (product_of F n (own_boundary inside d) (own_boundary inside d)) zero_entries
   own-squares squares x z = elim (cases_Bool (inside x)) [
-    | inr out ↦ sums.sum_below-zero laws n _ (λ y below. ap (λ t. F.mul t (own_boundary inside d y z)) (own-row x y out) ∙ sums.zero-mul laws (own_boundary inside d y z))
+    | inr out ↦ sums.sum_below-zero laws n _ (λ y below. ap (λ t. F.mul t (own_boundary inside d y z)) (own-row x y out)
+        ∙ sums.zero-mul laws (own_boundary inside d y z))
     | inl x_in ↦ elim (cases_Bool (inside z)) [
-      | inr out ↦ sums.sum_below-zero laws n _ (λ y below. ap (F.mul (own_boundary inside d x y)) (own-column y z out) ∙ sums.mul-zero laws (own_boundary inside d x y))
+      | inr out ↦ sums.sum_below-zero laws n _ (λ y below. ap (F.mul (own_boundary inside d x y)) (own-column y z out)
+          ∙ sums.mul-zero laws (own_boundary inside d x y))
       | inl z_in ↦ sums.sum_below-congr laws n _ _ (λ y below. elim (cases_Bool (inside y)) [
         | inl y_in ↦ ap (λ t. F.mul t (own_boundary inside d y z)) (own-inside x y x_in y_in) ∙ ap (F.mul (d x y)) (own-inside y z y_in z_in)
         | inr y_out ↦
@@ -69,7 +73,8 @@ module _ {F : Arithmetic} (laws : IsField F) (n : ℕ) (d : Entries) (inside : �
     | inl y_in ↦ elim (cases_Bool (inside x)) [ inr h ↦ own-column y x h | inl x_in ↦ own-inside y x y_in x_in ∙ none ]
   ]))
 
-module _ {F : Arithmetic} (laws : IsField F) (m : Table) (dims : List ℕ) (faces : List (List ℕ)) (complex : IsComplex F m dims faces) (set : List ℕ) (cells : IsCellList faces set) (closed : IsLocallyClosed faces set) where
+module _ {F : Arithmetic} (laws : IsField F) (m : Table) (dims : List ℕ) (faces : List (List ℕ)) (complex : IsComplex F m dims faces) (set : List ℕ)
+    (cells : IsCellList faces set) (closed : IsLocallyClosed faces set) where
   listed : (x : ℕ) → Contains set x → is_listed set x ≡ true
   listed x c = ap (is_listed set) (sym (get_or_default set c.0 0 x c.1 ∙ c.2)) ∙ is_listed-place set c.0 c.1
 
@@ -113,45 +118,55 @@ module _ {F : Arithmetic} (laws : IsField F) (m : Table) (dims : List ℕ) (face
     codes = complex.codes;
     dims_count = complex.dims_count;
     squares = own-squares laws (column_count m) (entry m) (is_listed set) (IsInClosure faces set) (IsInMouth faces set) closed_around complex.squares;
-    one_down = own-one_down laws (column_count m) (entry m) (is_listed set) (IsInClosure faces set) (IsInMouth faces set) closed_around (dim_in dims) complex.one_down;
+    one_down = own-one_down laws (column_count m) (entry m) (is_listed set) (IsInClosure faces set) (IsInMouth faces set) closed_around (dim_in dims)
+        complex.one_down;
   }
 
-module _ {F : Arithmetic} (laws : IsField F) (c : Layout) (is : IsLayout F c) (set : List ℕ) (cells : IsCellList c.faces set) (closed : IsLocallyClosed c.faces set) {keeps : Bool}
-    (kept reduced : List (List (ℕ × ℕ))) (owner : List (Option ℕ)) (s : IsReducedSoFar F c.boundary c.dims set keeps (λ j. 0 ≤ dim_in c.dims (place_in set j)) kept reduced owner) where
+module _ {F : Arithmetic} (laws : IsField F) (c : Layout) (is : IsLayout F c) (set : List ℕ) (cells : IsCellList c.faces set)
+    (closed : IsLocallyClosed c.faces set) {keeps : Bool}
+    (kept reduced : List (List (ℕ × ℕ))) (owner : List (Option ℕ)) (s : IsReducedSoFar F c.boundary c.dims set keeps (λ j. 0 ≤ dim_in c.dims (place_in set j))
+    kept reduced owner) where
   own : IsOwnComplex F c.boundary c.dims set
   own = own_complex laws c.boundary c.dims c.faces is.complex set cells closed
 
   -- the chains of the free cells of a dimension are a basis, whether they are kept or not
-  pub free-IsConleyBasis : (k b : ℕ) (list : ℕ → ℕ) → IsListing (length set) (IsFree (dim_in c.dims) (place_in set) (vector_at reduced) (owner_at owner) k) b list
+  pub free-IsConleyBasis : (k b : ℕ) (list : ℕ → ℕ) → IsListing (length set) (IsFree (dim_in c.dims) (place_in set) (vector_at reduced) (owner_at owner) k) b
+      list
       → IsConleyBasis F c set k b (λ i. s.chain (list i))
   free-IsConleyBasis k b list listing =
       excision laws (column_count c.boundary) (entry c.boundary) (dim_in c.dims) (is_listed set) (IsInClosure c.faces set) (IsInMouth c.faces set)
       (closed_around laws c.boundary c.dims c.faces is.complex set cells closed) k b (λ i. s.chain (list i))
-      (reduced-IsHomologyBasis laws (column_count c.boundary) (own_entries c.boundary set) (dim_in c.dims) own.squares own.one_down (length set) (place_in set) (place-distinct set cells.ascending)
-      s.chain (vector_at reduced) (owner_at owner) (all_done laws c.boundary c.dims set (λ j. 0 ≤ dim_in c.dims (place_in set j)) kept reduced owner (λ j j_below. omega arith) s)
+      (reduced-IsHomologyBasis laws (column_count c.boundary) (own_entries c.boundary set) (dim_in c.dims) own.squares own.one_down (length set) (place_in set)
+      (place-distinct set cells.ascending)
+      s.chain (vector_at reduced) (owner_at owner) (all_done laws c.boundary c.dims set (λ j. 0 ≤ dim_in c.dims (place_in set j)) kept reduced owner
+      (λ j j_below. omega arith) s)
       (is_listed set) (is_listed-place set) (listed_place set) k b list listing)
 
   -- so many free cells of each dimension are the Conley numbers
-  pub counted-AreConleyNumbers : (numbers : List ℕ) → AreCounted (IsFree (dim_in c.dims) (place_in set) (vector_at reduced) (owner_at owner)) (length set) c.levels numbers → AreConleyNumbers F c set numbers
+  pub counted-AreConleyNumbers : (numbers : List ℕ) → AreCounted (IsFree (dim_in c.dims) (place_in set) (vector_at reduced) (owner_at owner)) (length set)
+      c.levels numbers → AreConleyNumbers F c set numbers
   counted-AreConleyNumbers numbers counted = record {
     levels_count = counted.levels;
     basis = λ k below.
         let l = counted.counts k below in (
           (λ i. s.chain (get_or l.0 i 0)),
           free-IsConleyBasis k (get_or numbers k 0) (λ i. get_or l.0 i 0)
-              (subst (λ (r : ℕ). IsListing (length set) (IsFree (dim_in c.dims) (place_in set) (vector_at reduced) (owner_at owner) k) r (λ i. get_or l.0 i 0)) l.1.0 l.1.1.listing),
+              (subst (λ (r : ℕ). IsListing (length set) (IsFree (dim_in c.dims) (place_in set) (vector_at reduced) (owner_at owner) k) r (λ i. get_or l.0 i 0))
+              l.1.0 l.1.1.listing),
         );
   }
 
   -- where the chains are kept, those of the free cells are the cycles
   pub gathered-IsHomology : keeps ≡ true → (numbers : List ℕ) (cycles : List (List (ℕ × ℕ)))
-      → IsGathered kept (IsFree (dim_in c.dims) (place_in set) (vector_at reduced) (owner_at owner)) (length set) c.levels numbers cycles → IsHomology F c set numbers cycles
+      → IsGathered kept (IsFree (dim_in c.dims) (place_in set) (vector_at reduced) (owner_at owner)) (length set) c.levels numbers cycles
+      → IsHomology F c set numbers cycles
   gathered-IsHomology all_kept numbers cycles gathered = record {
     levels_count = gathered.levels;
     total = gathered.total;
     basis = λ k below.
         let l = gathered.lists k below in
-        same-IsBasisModulo laws (λ v. IsRelativeCycle F c set v × ((x : ℕ) → v x ≢ 0 → dim_in c.dims x ≡ k)) (IsRelativeBoundary F c set) (get_or numbers k 0) (λ i. s.chain (l.0 i)) (cycle_at numbers cycles k)
+        same-IsBasisModulo laws (λ v. IsRelativeCycle F c set v × ((x : ℕ) → v x ≢ 0 → dim_in c.dims x ≡ k)) (IsRelativeBoundary F c set) (get_or numbers k 0)
+        (λ i. s.chain (l.0 i)) (cycle_at numbers cycles k)
         (λ i i_below. fun_ext (λ x. sym (s.is_kept all_kept (l.0 i) x)) ∙ ap (λ (es : List (ℕ × ℕ)). coefficient es) (sym (l.1.1 i i_below)))
         (free-IsConleyBasis k (get_or numbers k 0) l.0 l.1.0);
   }

@@ -23,7 +23,14 @@ module _ {F : Arithmetic} (laws : IsField F) (m : Table) (dims set : List ℕ) (
   row-start kept reduced row end chains ends sum width codes = record {
     chain = chains.chain;
     is_kept = chains.is_kept;
-    column = record { codes = chains.column.codes; lead = chains.column.lead; support = chains.column.support; level = chains.column.level; is = λ x. same x ∙ chains.column.is x };
+    column = record {
+      codes = chains.column.codes;
+      lead = chains.column.lead;
+      support = chains.column.support;
+      level = chains.column.level;
+      is = λ x. same x
+          ∙ chains.column.is x;
+    };
     kept_codes = chains.kept_codes;
     width = width;
     codes = codes;
@@ -42,41 +49,49 @@ module _ {F : Arithmetic} (laws : IsField F) (m : Table) (dims set : List ℕ) (
     from (suc p) is x some = subst (λ (k : ℕ). IsUpTo (place_in set) k x) (let e : p + 1 ≡ suc p = omega arith in e) ((is.at p (omega arith)).support x some)
 
   -- a multiple of an earlier column more
-  pub row-more : (chain : ℕ → Vector) (kept reduced : List (List (ℕ × ℕ))) (p j by : ℕ) (own_kept new_kept : List (ℕ × ℕ)) (row new_row : List ℕ) (end new_end : ℕ)
+  pub row-more : (chain : ℕ → Vector) (kept reduced : List (List (ℕ × ℕ))) (p j by : ℕ) (own_kept new_kept : List (ℕ × ℕ)) (row new_row : List ℕ)
+      (end new_end : ℕ)
       → i < length set → IsSource laws m dims set complex chain reduced i p j → (keeps ≡ true → (x : ℕ) → vector_at kept j x ≡ chain j x)
       → IsRowFor F m dims set keeps i own_kept row end → end ≡ p + 1 → by < F.order
       → ((x : ℕ) → coefficient new_kept x ≡ F.add (coefficient own_kept x) (F.mul by (vector_at kept j x))) → HasCodes F new_kept
-      → ((x : ℕ) → slice_index new_row x ≡ F.add (slice_index row x) (F.mul by (vector_at reduced j x))) → length new_row ≡ length row → All (λ a. a < F.order) new_row
-      → new_end ≤ end → ((k : ℕ) → new_end ≤ k → k < end → slice_index new_row (place_in set k) ≡ 0) → ((q : ℕ) → new_end ≡ q + 1 → slice_index new_row (place_in set q) ≢ 0)
+      → ((x : ℕ) → slice_index new_row x ≡ F.add (slice_index row x) (F.mul by (vector_at reduced j x))) → length new_row ≡ length row
+      → All (λ a. a < F.order) new_row
+      → new_end ≤ end → ((k : ℕ) → new_end ≤ k → k < end → slice_index new_row (place_in set k) ≡ 0)
+      → ((q : ℕ) → new_end ≡ q + 1 → slice_index new_row (place_in set q) ≢ 0)
       → IsRowFor F m dims set keeps i new_kept new_row new_end
-  row-more chain kept reduced p j by own_kept new_kept row new_row end new_end below s is_kept r ends by_below kept_sum kept_codes row_sum width codes within past lead = record {
-    chain = λ x. F.add (r.chain x) (F.mul by (chain j x));
-    is_kept = λ keeps x.
-        kept_sum x ∙ ap (λ (t : ℕ). F.add t (F.mul by (vector_at kept j x))) (r.is_kept keeps x)
-        ∙ ap (λ (t : ℕ). F.add (r.chain x) (F.mul by t)) (is_kept keeps x);
-    column = column-add laws (column_count m) (own_entries m set) (dim_in dims) (place_in set) (length set) i j by r.chain (slice_index row) (chain j) (vector_at reduced j)
-        (λ x. F.add (r.chain x) (F.mul by (chain j x))) (slice_index new_row) (place-distinct set complex.ascending) below s.before s.same_level by_below r.column s.column (λ x. refl) row_sum;
-    kept_codes = kept_codes;
-    width = width ∙ r.width;
-    codes = codes;
-    within = (let h = r.within in omega (arith, within));
-    upto = λ x some.
-        let at = before x some in
-        elim (cases_lt at.0 new_end) [
-          | inl less ↦ (at.0, (less, at.1.1))
-          | inr more ↦ absurd (some (ap (slice_index new_row) at.1.1 ∙ past at.0 more at.1.0))
-        ];
-    lead = lead;
-  } where
-    before : (x : ℕ) → slice_index new_row x ≢ 0 → IsUpTo (place_in set) end x
-    before x some = elim (cases_eq (slice_index row x) 0) [
-      | inr here ↦ r.upto x here
-      | inl none ↦ subst (λ (k : ℕ). IsUpTo (place_in set) k x) (sym ends) (s.ends.support x (λ none'.
-          some (row_sum x ∙ ap (λ t. F.add t (F.mul by (vector_at reduced j x))) none ∙ ap (λ t. F.add 0 (F.mul by t)) none' ∙ ap (F.add 0) (sums.mul-zero laws by) ∙ sums.add_zero_zero laws)))
-    ]
+  row-more chain kept reduced p j by own_kept new_kept row new_row end new_end below s is_kept r ends by_below kept_sum kept_codes row_sum width codes within
+      past lead = record {
+        chain = λ x. F.add (r.chain x) (F.mul by (chain j x));
+        is_kept = λ keeps x.
+            kept_sum x ∙ ap (λ (t : ℕ). F.add t (F.mul by (vector_at kept j x))) (r.is_kept keeps x)
+            ∙ ap (λ (t : ℕ). F.add (r.chain x) (F.mul by t)) (is_kept keeps x);
+        column = column-add laws (column_count m) (own_entries m set) (dim_in dims) (place_in set) (length set) i j by r.chain (slice_index row) (chain j)
+            (vector_at reduced j)
+            (λ x. F.add (r.chain x) (F.mul by (chain j x))) (slice_index new_row) (place-distinct set complex.ascending) below s.before s.same_level by_below
+            r.column s.column (λ x. refl) row_sum;
+        kept_codes = kept_codes;
+        width = width ∙ r.width;
+        codes = codes;
+        within = (let h = r.within in omega (arith, within));
+        upto = λ x some.
+            let at = before x some in
+            elim (cases_lt at.0 new_end) [
+              | inl less ↦ (at.0, (less, at.1.1))
+              | inr more ↦ absurd (some (ap (slice_index new_row) at.1.1 ∙ past at.0 more at.1.0))
+            ];
+        lead = lead;
+      } where
+        before : (x : ℕ) → slice_index new_row x ≢ 0 → IsUpTo (place_in set) end x
+        before x some = elim (cases_eq (slice_index row x) 0) [
+          | inr here ↦ r.upto x here
+          | inl none ↦ subst (λ (k : ℕ). IsUpTo (place_in set) k x) (sym ends) (s.ends.support x (λ none'.
+              some (row_sum x ∙ ap (λ t. F.add t (F.mul by (vector_at reduced j x))) none ∙ ap (λ t. F.add 0 (F.mul by t)) none'
+              ∙ ap (F.add 0) (sums.mul-zero laws by) ∙ sums.add_zero_zero laws)))
+        ]
 
   -- the row as a chain
-  pub row-chain : (kept es : List (ℕ × ℕ)) (row : List ℕ) (end : ℕ) → IsRowFor F m dims set keeps i kept row end → ((x : ℕ) → coefficient es x ≡ slice_index row x) → HasCodes F es
+  pub row-chain : (kept es : List (ℕ × ℕ)) (row : List ℕ) (end : ℕ) → IsRowFor F m dims set keeps i kept row end
+      → ((x : ℕ) → coefficient es x ≡ slice_index row x) → HasCodes F es
       → IsChainFor F m dims set keeps i kept es
   row-chain kept es row end r same codes = record {
     chain = r.chain;
@@ -86,7 +101,8 @@ module _ {F : Arithmetic} (laws : IsField F) (m : Table) (dims set : List ℕ) (
     reduced_codes = codes;
   }
 
-  pub row-end : (kept es : List (ℕ × ℕ)) (row : List ℕ) (end : ℕ) → IsRowFor F m dims set keeps i kept row end → ((x : ℕ) → coefficient es x ≡ slice_index row x) → IsChain es → IsEnd set es end
+  pub row-end : (kept es : List (ℕ × ℕ)) (row : List ℕ) (end : ℕ) → IsRowFor F m dims set keeps i kept row end
+      → ((x : ℕ) → coefficient es x ≡ slice_index row x) → IsChain es → IsEnd set es end
   row-end kept es row end r same chain = record {
     within = r.within;
     none = λ nothing. chain-empty es chain (λ x. elim (cases_eq (coefficient es x) 0) [

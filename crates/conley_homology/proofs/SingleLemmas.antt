@@ -3,6 +3,7 @@ use Rattle.std.proofs.Common.{◌≡◌, ◌≢◌, inl, inr, ℕ, ◌+◌, ◌<
 use Rattle.std.proofs.lemmas.Bool.{cases_Bool, cases_eq, eq-eqb, ne_eqb, true≢false}
 use Rattle.std.proofs.lemmas.List.Elements.{All-cons, All-nil}
 use Rattle.std.proofs.lemmas.Option.{none-some}
+use Rattle.conley_lists.specs.Lists.{is_listed}
 use Rattle.conley_field.specs.Arithmetic.{Arithmetic, IsField}
 use Rattle.conley_algebra.proofs.SumLemmas as sums
 use Rattle.conley_chains.specs.Chain.{coefficient, HasCodes}
@@ -12,7 +13,7 @@ use Rattle.conley_lefschetz.specs.Listing.{dim_in}
 use Rattle.conley_lefschetz.specs.Complex.{Layout, IsLayout}
 use Rattle.conley_lefschetz.specs.Conley.{AreConleyNumbers}
 use Rattle.conley_homology.specs.Reduced.{IsFree}
-use Rattle.conley_homology.specs.Own.{is_listed, own_entries, place_in, owner_at, vector_at, IsOwnComplex, IsReducedSoFar}
+use Rattle.conley_homology.specs.Own.{own_entries, place_in, owner_at, vector_at, IsOwnComplex, IsReducedSoFar}
 use Rattle.conley_homology.specs.Homology.{IsCounted}
 use Rattle.conley_homology.proofs.PlaceLemmas.{listed_place}
 use Rattle.conley_homology.proofs.ColumnLemmas.{column-single}
@@ -75,8 +76,10 @@ module _ {F : Arithmetic} (laws : IsField F) (m : Table) (dims set : List ℕ) (
   single-counted levels numbers count entries = record {
     levels = count;
     counts = λ k below. elim (cases_eq k (dim_in dims (place_in set 0))) [
-      | inl same ↦ by k 1 (entries k below ∙ ap (λ b. cond b 1 0) (eq-eqb k (dim_in dims (place_in set 0)) same)) (counted-more (Q k) 0 0 (refl, (λ x. refl), sym same) (counted-none (Q k)))
-      | inr other ↦ by k 0 (entries k below ∙ ap (λ b. cond b 1 0) (ne_eqb k (dim_in dims (place_in set 0)) other)) (counted-other (Q k) 0 0 (λ free. other (sym free.2)) (counted-none (Q k)))
+      | inl same ↦ by k 1 (entries k below ∙ ap (λ b. cond b 1 0) (eq-eqb k (dim_in dims (place_in set 0)) same))
+          (counted-more (Q k) 0 0 (refl, (λ x. refl), sym same) (counted-none (Q k)))
+      | inr other ↦ by k 0 (entries k below ∙ ap (λ b. cond b 1 0) (ne_eqb k (dim_in dims (place_in set 0)) other))
+          (counted-other (Q k) 0 0 (λ free. other (sym free.2)) (counted-none (Q k)))
     ];
   } where
     Q : ℕ → ℕ → Type 0
@@ -86,8 +89,10 @@ module _ {F : Arithmetic} (laws : IsField F) (m : Table) (dims set : List ℕ) (
     by k n is c = subst (λ (t : ℕ). IsCounted (Q k) t (get_or numbers k 0)) (sym one) (subst (λ (t : ℕ). IsCounted (Q k) 1 t) (sym is) c)
 
 -- one at the dimension of the cell are the Conley numbers of the set
-pub single-AreConleyNumbers : {F : Arithmetic} (laws : IsField F) (c : Layout) (is : IsLayout F c) (set : List ℕ) (cells : IsCellList c.faces set) (closed : IsLocallyClosed c.faces set) (one : length set ≡ 1)
-    (numbers : List ℕ) → length numbers ≡ c.levels → ((k : ℕ) → k < c.levels → get_or numbers k 0 ≡ cond (k == dim_in c.dims (place_in set 0)) 1 0) → AreConleyNumbers F c set numbers
+pub single-AreConleyNumbers : {F : Arithmetic} (laws : IsField F) (c : Layout) (is : IsLayout F c) (set : List ℕ) (cells : IsCellList c.faces set)
+    (closed : IsLocallyClosed c.faces set) (one : length set ≡ 1)
+    (numbers : List ℕ) → length numbers ≡ c.levels → ((k : ℕ) → k < c.levels → get_or numbers k 0 ≡ cond (k == dim_in c.dims (place_in set 0)) 1 0)
+    → AreConleyNumbers F c set numbers
 single-AreConleyNumbers laws c is set cells closed one numbers count entries =
     let own = own_complex laws c.boundary c.dims c.faces is.complex set cells closed in
     counted-AreConleyNumbers laws c is set cells closed empties empties owners (single-reduced laws c.boundary c.dims set own one) numbers

@@ -30,7 +30,8 @@ pub pick-some : (o : Option ℕ) (i none : ℕ) (some : ℕ → ℕ) → o ≡ S
 unfolding pick
 pick-some o i none some is = ap (λ q. pick q none some) is
 
-module _ {F : Arithmetic} (laws : IsField F) (n : ℕ) (d : Entries) (dim : ℕ → ℕ) (squares : (x z : ℕ) → product_of F n d d x z ≡ 0) (one_down : OnlyWhere (λ y x. dim x ≡ dim y + 1) d)
+module _ {F : Arithmetic} (laws : IsField F) (n : ℕ) (d : Entries) (dim : ℕ → ℕ) (squares : (x z : ℕ) → product_of F n d d x z ≡ 0)
+    (one_down : OnlyWhere (λ y x. dim x ≡ dim y + 1) d)
     (m : ℕ) (place : ℕ → ℕ) (distinct : (i j : ℕ) → i < m → j < m → place i ≡ place j → i ≡ j)
     (v r : ℕ → Vector) (owner : ℕ → Option ℕ) (reduced : IsReduced F n d dim m place v r owner) where
   -- the vector at each cell: the boundary that ends there, or else the chain
@@ -157,7 +158,8 @@ module _ {F : Arithmetic} (laws : IsField F) (n : ℕ) (d : Entries) (dim : ℕ 
         ∙ sym (sums.sum_below-zero laws m _ (λ q q_below. term_zero q p x (λ is. none-some o.0 (sym (reduced.owns q p q_below is).1 ∙ o.1))))
     | inl none ↦ pick-none (owner p) (r p x) (λ i. 0) none ∙ elim (reduced.ends p below none) [
       | inl at ↦
-          sym (w-some at.0 p x at.1.1) ∙ sym (one-mul (w at.0 x) (triangular.codes at.0 x at.1.0)) ∙ ap (λ t. F.mul t (w at.0 x)) (sym (link-same at.0 p at.1.1))
+          sym (w-some at.0 p x at.1.1) ∙ sym (one-mul (w at.0 x) (triangular.codes at.0 x at.1.0))
+          ∙ ap (λ t. F.mul t (w at.0 x)) (sym (link-same at.0 p at.1.1))
           ∙ sym (sums.sum_below-single laws m (λ q. F.mul (link q p) (w q x)) at.0 at.1.0 (laws.mul_below (link at.0 p) (w at.0 x))
           (λ q q_below differs. term_zero q p x (λ is. differs (ends_once q at.0 p q_below at.1.0 is at.1.1))))
       | inr zero ↦ zero x ∙ sym (sums.sum_below-zero laws m _ (λ q q_below. term_zero q p x (λ is. (reduced.owns q p q_below is).2.lead (zero (place q)))))
@@ -188,7 +190,8 @@ module _ {F : Arithmetic} (laws : IsField F) (n : ℕ) (d : Entries) (dim : ℕ 
   unfolding along
   image-by_w c x =
       image-combination laws n m d w c x
-      ∙ sums.sum_below-congr laws m _ _ (λ p below. ap (F.mul (c p)) (image-w p x below ∙ s-links p x below) ∙ sums.mul-sum_below laws m (c p) (λ q. F.mul (link q p) (w q x)))
+      ∙ sums.sum_below-congr laws m _ _ (λ p below. ap (F.mul (c p)) (image-w p x below ∙ s-links p x below)
+      ∙ sums.mul-sum_below laws m (c p) (λ q. F.mul (link q p) (w q x)))
       ∙ sums.sum_below-exchange laws m m (λ p q. F.mul (c p) (F.mul (link q p) (w q x)))
       ∙ sums.sum_below-congr laws m _ _ (λ q below.
       sums.sum_below-congr laws m _ _ (λ p p_below. sym (laws.mul_assoc (c p) (link q p) (w q x)) ∙ ap (λ t. F.mul t (w q x)) (laws.mul_comm (c p) (link q p)))
@@ -209,10 +212,12 @@ module _ {F : Arithmetic} (laws : IsField F) (n : ℕ) (d : Entries) (dim : ℕ 
   w-parts q x below = elim (option_cases (owner q)) [
     | inl none ↦
         w-none q x none ∙ sym (laws.add_zero (v q x) ((reduced.column q below none).codes x))
-        ∙ sym (ap (λ a. F.add a (pick (owner q) 0 (λ i. r i x))) (pick-none (owner q) (v q x) (λ i. 0) none) ∙ ap (F.add (v q x)) (pick-none (owner q) 0 (λ i. r i x) none))
+        ∙ sym (ap (λ a. F.add a (pick (owner q) 0 (λ i. r i x))) (pick-none (owner q) (v q x) (λ i. 0) none)
+        ∙ ap (F.add (v q x)) (pick-none (owner q) 0 (λ i. r i x) none))
     | inr o ↦
         w-some q o.0 x o.1 ∙ sym (laws.add_zero (r o.0 x) (r_codes q o.0 x below o.1)) ∙ laws.add_comm (r o.0 x) 0
-        ∙ sym (ap (λ a. F.add a (pick (owner q) 0 (λ i. r i x))) (pick-some (owner q) o.0 (v q x) (λ i. 0) o.1) ∙ ap (F.add 0) (pick-some (owner q) o.0 0 (λ i. r i x) o.1))
+        ∙ sym (ap (λ a. F.add a (pick (owner q) 0 (λ i. r i x))) (pick-some (owner q) o.0 (v q x) (λ i. 0) o.1)
+        ∙ ap (F.add 0) (pick-some (owner q) o.0 0 (λ i. r i x) o.1))
   ]
 
   image-y : (q x : ℕ) → q < m → image_of F n d (y q) x ≡ t q x
@@ -272,7 +277,8 @@ module _ {F : Arithmetic} (laws : IsField F) (n : ℕ) (d : Entries) (dim : ℕ 
         )
 
     -- chains on the set have scalars
-    scalars : (Q : ℕ → Type 0) → ((i x : ℕ) → i < m → w i x ≢ 0 → Q (place i) → Q x) → (u : Vector) → IsChainOn F (λ x. inside x ≡ true) u → ((x : ℕ) → u x ≢ 0 → Q x) → AreCoordinates F m place w Q u
+    scalars : (Q : ℕ → Type 0) → ((i x : ℕ) → i < m → w i x ≢ 0 → Q (place i) → Q x) → (u : Vector) → IsChainOn F (λ x. inside x ≡ true) u
+        → ((x : ℕ) → u x ≢ 0 → Q x) → AreCoordinates F m place w Q u
     scalars Q homogeneous u chain only = coordinates laws m place w Q u triangular homogeneous chain.codes (λ x some. all_cells x (chain.only x some)) only
 
     of_level : (i x : ℕ) → i < m → w i x ≢ 0 → dim (place i) ≡ k → dim x ≡ k
@@ -287,7 +293,8 @@ module _ {F : Arithmetic} (laws : IsField F) (n : ℕ) (d : Entries) (dim : ℕ 
       a_owner q i below is =
           sym (along-some a.scalars q i a.codes below is)
           ∙ triangular-zero laws m place w (along a.scalars) triangular (along_codes a.scalars)
-          (λ x. sym (image-by_w a.scalars x) ∙ ap (λ (c : Vector). image_of F n d c x) (sym (fun_ext a.is)) ∙ nothing (image_of F n d u) cycle.on_mouth.only x) q below
+          (λ x. sym (image-by_w a.scalars x) ∙ ap (λ (c : Vector). image_of F n d c x) (sym (fun_ext a.is)) ∙ nothing (image_of F n d u) cycle.on_mouth.only x)
+          q below
 
       listed : (x q : ℕ) → q < m → F.mul (a.scalars q) (e q x) ≢ 0 → (i : ℕ) × ((i < b) × (list i ≡ q))
       unfolding e
@@ -306,7 +313,8 @@ module _ {F : Arithmetic} (laws : IsField F) (n : ℕ) (d : Entries) (dim : ℕ 
       unfolding e
       free_part x =
           sum_by_list laws m b list (λ q. F.mul (a.scalars q) (e q x)) listing.within listing.distinct (listed x)
-          ∙ sums.sum_below-congr laws b _ _ (λ i below. ap (F.mul (a.scalars (list i))) (pick-none (owner (list i)) (v (list i) x) (λ j. 0) (listing.holds i below).0))
+          ∙ sums.sum_below-congr laws b _ _ (λ i below. ap (F.mul (a.scalars (list i))) (pick-none (owner (list i)) (v (list i) x) (λ j. 0)
+          (listing.holds i below).0))
 
       parts : (x : ℕ) → u x ≡ F.add (combination F b (λ i. v (list i)) (λ i. a.scalars (list i)) x) (combination F m t a.scalars x)
       parts x =
@@ -328,7 +336,8 @@ module _ {F : Arithmetic} (laws : IsField F) (n : ℕ) (d : Entries) (dim : ℕ 
         part_chain = record { codes = λ x. sums.zero_below laws; only = λ x some. some refl };
         is = λ x.
             sym (laws.add_zero (combination F m t a.scalars x) (sums.sum_below-below laws m _))
-            ∙ ap (λ h. F.add h 0) (sym (image-combination laws n m d y a.scalars x ∙ sums.sum_below-congr laws m _ _ (λ q below. ap (F.mul (a.scalars q)) (image-y q x below))));
+            ∙ ap (λ h. F.add h 0) (sym (image-combination laws n m d y a.scalars x ∙ sums.sum_below-congr laws m _ _
+            (λ q below. ap (F.mul (a.scalars q)) (image-y q x below))));
       }
 
       expressed : IsExpressed F (IsRelativeBoundary F n d (λ x. inside x ≡ true) (λ x. ⊥)) b (λ i. v (list i)) u (λ i. a.scalars (list i))
@@ -342,7 +351,8 @@ module _ {F : Arithmetic} (laws : IsField F) (n : ℕ) (d : Entries) (dim : ℕ 
       unfolding spread
       spread-at c i codes below =
           sums.sum_below-single laws b (λ j. F.mul (cond (list j == list i) 1 0) (c j)) i below (laws.mul_below _ _)
-          (λ j j_below differs. ap (λ h. F.mul (cond h 1 0) (c j)) (ne_eqb (list j) (list i) (λ same. differs (listing.distinct j i j_below below same))) ∙ sums.zero-mul laws (c j))
+          (λ j j_below differs. ap (λ h. F.mul (cond h 1 0) (c j)) (ne_eqb (list j) (list i) (λ same. differs (listing.distinct j i j_below below same)))
+          ∙ sums.zero-mul laws (c j))
           ∙ ap (λ h. F.mul (cond h 1 0) (c i)) (eq-eqb (list i) (list i) refl) ∙ one-mul (c i) (codes i)
 
       spread-combination : (c : Vector) (x : ℕ) → combination F b (λ i. v (list i)) c x ≡ combination F m w (spread c) x
@@ -355,16 +365,20 @@ module _ {F : Arithmetic} (laws : IsField F) (n : ℕ) (d : Entries) (dim : ℕ 
           single : (i : ℕ) → i < b → F.mul (c i) (v (list i) x) ≡ sum_below F m (λ q. F.mul (F.mul (cond (list i == q) 1 0) (c i)) (w q x))
           single i below = sym (
               sums.sum_below-single laws m (λ q. F.mul (F.mul (cond (list i == q) 1 0) (c i)) (w q x)) (list i) (listing.within i below) (laws.mul_below _ _)
-              (λ q q_below differs. ap (λ h. F.mul (F.mul (cond h 1 0) (c i)) (w q x)) (ne_eqb (list i) q (λ same. differs (sym same))) ∙ ap (λ h. F.mul h (w q x)) (sums.zero-mul laws (c i)) ∙ sums.zero-mul laws (w q x))
+              (λ q q_below differs. ap (λ h. F.mul (F.mul (cond h 1 0) (c i)) (w q x)) (ne_eqb (list i) q (λ same. differs (sym same)))
+              ∙ ap (λ h. F.mul h (w q x)) (sums.zero-mul laws (c i)) ∙ sums.zero-mul laws (w q x))
               ∙ ap (λ h. F.mul (F.mul (cond h 1 0) (c i)) (w (list i) x)) (eq-eqb (list i) (list i) refl)
               ∙ laws.mul_assoc 1 (c i) (w (list i) x) ∙ one-mul (F.mul (c i) (w (list i) x)) (laws.mul_below (c i) (w (list i) x))
               ∙ ap (F.mul (c i)) (w-none (list i) x (listing.holds i below).0))
 
       -- the scalar of a cycle is the one that the chain has at its cell
-      determined : (c : Vector) → IsExpressed F (IsRelativeBoundary F n d (λ x. inside x ≡ true) (λ x. ⊥)) b (λ i. v (list i)) u c → (i : ℕ) → i < b → c i ≡ a.scalars (list i)
+      determined : (c : Vector) → IsExpressed F (IsRelativeBoundary F n d (λ x. inside x ≡ true) (λ x. ⊥)) b (λ i. v (list i)) u c → (i : ℕ) → i < b
+          → c i ≡ a.scalars (list i)
       determined c is i below = sym (
-          triangular-once laws m place w a.scalars (λ q. F.add (spread c q) (along of.scalars q)) triangular a.codes (λ q. laws.add_below _ _) same (list i) (listing.within i below)
-          ∙ ap (F.add (spread c (list i))) (along-none of.scalars (list i) (listing.holds i below).0) ∙ ap (λ h. F.add h 0) (spread-at c i is.codes below) ∙ laws.add_zero (c i) (is.codes i))
+          triangular-once laws m place w a.scalars (λ q. F.add (spread c q) (along of.scalars q)) triangular a.codes (λ q. laws.add_below _ _) same (list i)
+          (listing.within i below)
+          ∙ ap (F.add (spread c (list i))) (along-none of.scalars (list i) (listing.holds i below).0) ∙ ap (λ h. F.add h 0) (spread-at c i is.codes below)
+          ∙ laws.add_zero (c i) (is.codes i))
         where
           of : AreCoordinates F m place w (λ x. Unit {0}) is.in_B.of
           of = scalars (λ x. Unit {0}) (λ i x below some unit. unit) is.in_B.of is.in_B.of_chain (λ x some. tt)
@@ -377,7 +391,8 @@ module _ {F : Arithmetic} (laws : IsField F) (n : ℕ) (d : Entries) (dim : ℕ 
 
           same : (x : ℕ) → combination F m w a.scalars x ≡ combination F m w (λ q. F.add (spread c q) (along of.scalars q)) x
           same x =
-              sym (a.is x) ∙ is.is x ∙ ap (F.add (combination F b (λ i. v (list i)) c x)) (rest x) ∙ ap (λ h. F.add h (combination F m w (along of.scalars) x)) (spread-combination c x)
+              sym (a.is x) ∙ is.is x ∙ ap (F.add (combination F b (λ i. v (list i)) c x)) (rest x)
+              ∙ ap (λ h. F.add h (combination F m w (along of.scalars) x)) (spread-combination c x)
               ∙ sym (sums.sum_below-congr laws m _ _ (λ q below. sums.add-mul laws (spread c q) (along of.scalars q) (w q x))
               ∙ sums.sum_below-add laws m (λ q. F.mul (spread c q) (w q x)) (λ q. F.mul (along of.scalars q) (w q x)))
 

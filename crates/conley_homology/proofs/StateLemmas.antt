@@ -5,6 +5,7 @@ use Rattle.std.specs.Option.{is_some}
 use Rattle.std.proofs.lemmas.List.{get_or-set_same, get_or-set_other, length-set, get_or_default}
 use Rattle.std.proofs.lemmas.List.Elements.{All-set, All-nil, All-weaker}
 use Rattle.std.proofs.lemmas.Option.{none-some, same_Some}
+use Rattle.conley_lists.proofs.TestLemmas.{none_from_test}
 use Rattle.conley_field.specs.Arithmetic.{Arithmetic, IsField}
 use Rattle.conley_algebra.specs.Entries.{Vector}
 use Rattle.conley_chains.specs.Chain.{coefficient, HasCodes}
@@ -55,7 +56,8 @@ module _ {F : Arithmetic} (laws : IsField F) (m : Table) (dims cells : List ℕ)
   -- where the boundary of a new column ends: nowhere, or at a place without owner, that isn't done
   pub data NewOwner (done : ℕ → Type 0) (owner owner' : List (Option ℕ)) (i : ℕ) (reduced : List (ℕ × ℕ)) : Type 0 where
     nowhere : owner' ≡ owner → reduced ≡ [] → NewOwner done owner owner' i reduced
-    at_place : (p : ℕ) → p < length cells → owner' ≡ set owner p (Some i) → owner_at owner p ≡ None → (done p → ⊥) → p ≢ i → EndsAt (place_in cells) p (coefficient reduced)
+    at_place : (p : ℕ) → p < length cells → owner' ≡ set owner p (Some i) → owner_at owner p ≡ None → (done p → ⊥) → p ≢ i
+        → EndsAt (place_in cells) p (coefficient reduced)
         → NewOwner done owner owner' i reduced
 
   module _ {keeps : Bool} (done done' : ℕ → Type 0) (kept reduced : List (List (ℕ × ℕ))) (owner : List (Option ℕ)) (i : ℕ) (new_kept new_reduced : List (ℕ × ℕ))
@@ -86,7 +88,8 @@ module _ {F : Arithmetic} (laws : IsField F) (m : Table) (dims cells : List ℕ)
           ap (λ (k : ℕ). vector_at (set kept i new_kept) k x) same ∙ ap (λ (es : List (ℕ × ℕ)). coefficient es x) (new_chain kept new_kept s.kept_count)
           ∙ chains.is_kept is x ∙ sym (ap (λ (v : Vector). v x) (chain_with-new j same))
       | inr other ↦
-          ap (λ (es : List (ℕ × ℕ)). coefficient es x) (other_chain kept new_kept j other) ∙ s.is_kept is j x ∙ sym (ap (λ (v : Vector). v x) (chain_with-old j other))
+          ap (λ (es : List (ℕ × ℕ)). coefficient es x) (other_chain kept new_kept j other) ∙ s.is_kept is j x
+          ∙ sym (ap (λ (v : Vector). v x) (chain_with-old j other))
     ]
 
     column_at : (j : ℕ) → j < length cells → done' j → (j ≢ i → owner_at owner j ≡ None)
@@ -135,7 +138,8 @@ module _ {F : Arithmetic} (laws : IsField F) (m : Table) (dims cells : List ℕ)
       owns = λ q j q_below is. elim (cases_eq q p) [
         | inl e ↦
             let i_is : i ≡ j = same_Some i j (sym (at_p q e) ∙ is) in
-            subst (λ (k : ℕ). (k < length cells) × done' k × (owner_at owner' k ≡ None) × EndsAt (place_in cells) q (vector_at (set reduced i new_reduced) k)) i_is
+            subst (λ (k : ℕ). (k < length cells) × done' k × (owner_at owner' k ≡ None) × EndsAt (place_in cells) q (vector_at (set reduced i new_reduced) k))
+            i_is
             (below, is_done, at_other i (λ h. p_other (sym h)) ∙ free, rw (new_chain reduced new_reduced s.reduced_count, e) ends_at)
         | inr other ↦
             let q_was : owner_at owner q ≡ Some j = sym (at_other q other) ∙ is in
@@ -152,7 +156,8 @@ module _ {F : Arithmetic} (laws : IsField F) (m : Table) (dims cells : List ℕ)
       ];
     } where
       at_p : (q : ℕ) → q ≡ p → owner_at owner' q ≡ Some i
-      at_p q e = ap (owner_at owner') e ∙ ap (λ (xs : List (Option ℕ)). owner_at xs p) same ∙ get_or-set_same owner p (Some i) None (let c = s.owner_count in omega arith)
+      at_p q e = ap (owner_at owner') e ∙ ap (λ (xs : List (Option ℕ)). owner_at xs p) same
+          ∙ get_or-set_same owner p (Some i) None (let c = s.owner_count in omega arith)
 
       at_other : (q : ℕ) → q ≢ p → owner_at owner' q ≡ owner_at owner q
       at_other q other = ap (λ (xs : List (Option ℕ)). owner_at xs q) same ∙ get_or-set_other owner p q (Some i) None other
@@ -177,9 +182,11 @@ module _ {F : Arithmetic} (laws : IsField F) (m : Table) (dims cells : List ℕ)
   }
 
 -- the cells of a level, one after another
-module _ {F : Arithmetic} (laws : IsField F) (m : Table) (dims cells : List ℕ) (complex : IsOwnComplex F m dims cells) (kept reduced : List (List (ℕ × ℕ))) (owner : List (Option ℕ)) where
+module _ {F : Arithmetic} (laws : IsField F) (m : Table) (dims cells : List ℕ) (complex : IsOwnComplex F m dims cells) (kept reduced : List (List (ℕ × ℕ)))
+    (owner : List (Option ℕ)) where
   pub level-other : {keeps : Bool} (level i : ℕ) → dim_in dims (place_in cells i) ≢ level
-      → IsReducedSoFar F m dims cells keeps (IsDone dims cells level i) kept reduced owner → IsReducedSoFar F m dims cells keeps (IsDone dims cells level (i + 1)) kept reduced owner
+      → IsReducedSoFar F m dims cells keeps (IsDone dims cells level i) kept reduced owner
+      → IsReducedSoFar F m dims cells keeps (IsDone dims cells level (i + 1)) kept reduced owner
   level-other level i other s = same_done laws m dims cells (IsDone dims cells level i) (IsDone dims cells level (i + 1)) kept reduced owner
       (λ j below is. elim is [ inl h ↦ inl h | inr h ↦ inr (h.0, (let l : j < i = h.1 in omega arith)) ])
       (λ j below is. elim is [
@@ -192,15 +199,18 @@ module _ {F : Arithmetic} (laws : IsField F) (m : Table) (dims cells : List ℕ)
       s
 
   pub level-owned : {keeps : Bool} (level i k : ℕ) → owner_at owner i ≡ Some k
-      → IsReducedSoFar F m dims cells keeps (IsDone dims cells level i) kept reduced owner → IsReducedSoFar F m dims cells keeps (IsDone dims cells level (i + 1)) kept reduced owner
+      → IsReducedSoFar F m dims cells keeps (IsDone dims cells level i) kept reduced owner
+      → IsReducedSoFar F m dims cells keeps (IsDone dims cells level (i + 1)) kept reduced owner
   level-owned level i k owned s = owned_done laws m dims cells (IsDone dims cells level i) (IsDone dims cells level (i + 1)) kept reduced owner i k owned
       (λ j below is. elim is [ inl h ↦ inl h | inr h ↦ inr (h.0, (let l : j < i = h.1 in omega arith)) ])
       (λ j below differs is. elim is [ inl h ↦ inl h | inr h ↦ inr (h.0, (let l : j < i + 1 = h.1 in omega arith)) ])
       s
 
-  pub level-column : {keeps : Bool} (level i end : ℕ) (new_kept new_reduced : List (ℕ × ℕ)) (owner' : List (Option ℕ)) → i < length cells → dim_in dims (place_in cells i) ≡ level → owner_at owner i ≡ None
+  pub level-column : {keeps : Bool} (level i end : ℕ) (new_kept new_reduced : List (ℕ × ℕ)) (owner' : List (Option ℕ)) → i < length cells
+      → dim_in dims (place_in cells i) ≡ level → owner_at owner i ≡ None
       → IsReducedSoFar F m dims cells keeps (IsDone dims cells level i) kept reduced owner → IsChainFor F m dims cells keeps i new_kept new_reduced
-      → IsEnd cells new_reduced end → ((p : ℕ) → end ≡ p + 1 → owner_at owner p ≡ None) → (end ≡ 0 → owner' ≡ owner) → ((p : ℕ) → end ≡ p + 1 → owner' ≡ set owner p (Some i))
+      → IsEnd cells new_reduced end → ((p : ℕ) → end ≡ p + 1 → owner_at owner p ≡ None) → (end ≡ 0 → owner' ≡ owner)
+      → ((p : ℕ) → end ≡ p + 1 → owner' ≡ set owner p (Some i))
       → IsReducedSoFar F m dims cells keeps (IsDone dims cells level (i + 1)) (set kept i new_kept) (set reduced i new_reduced) owner'
   level-column level i end new_kept new_reduced owner' below at_level free s chains is_end p_free nowhere_is place_is =
       column_done laws m dims cells (IsDone dims cells level i) (IsDone dims cells level (i + 1)) kept reduced owner i new_kept new_reduced below
@@ -211,9 +221,11 @@ module _ {F : Arithmetic} (laws : IsField F) (m : Table) (dims cells : List ℕ)
       s chains owner' (by_end end is_end p_free nowhere_is place_is)
     where
       lower : (p : ℕ) → EndsAt (place_in cells) p (coefficient new_reduced) → dim_in dims (place_in cells i) ≡ dim_in dims (place_in cells p) + 1
-      lower p ends = column-level laws (column_count m) (own_entries m cells) (dim_in dims) (place_in cells) i (place_in cells p) chains.chain (coefficient new_reduced) complex.one_down chains.column ends.lead
+      lower p ends = column-level laws (column_count m) (own_entries m cells) (dim_in dims) (place_in cells) i (place_in cells p) chains.chain
+          (coefficient new_reduced) complex.one_down chains.column ends.lead
 
-      by_end : (end : ℕ) → IsEnd cells new_reduced end → ((p : ℕ) → end ≡ p + 1 → owner_at owner p ≡ None) → (end ≡ 0 → owner' ≡ owner) → ((p : ℕ) → end ≡ p + 1 → owner' ≡ set owner p (Some i))
+      by_end : (end : ℕ) → IsEnd cells new_reduced end → ((p : ℕ) → end ≡ p + 1 → owner_at owner p ≡ None) → (end ≡ 0 → owner' ≡ owner)
+          → ((p : ℕ) → end ≡ p + 1 → owner' ≡ set owner p (Some i))
           → NewOwner laws m dims cells (IsDone dims cells level i) owner owner' i new_reduced
       by_end zero is_end p_free nowhere_is place_is = nowhere (nowhere_is refl) (is_end.none refl)
       by_end (suc p) is_end p_free nowhere_is place_is =
@@ -222,16 +234,19 @@ module _ {F : Arithmetic} (laws : IsField F) (m : Table) (dims cells : List ℕ)
           let down = lower p ends in
           at_place p (omega arith) (place_is p (omega arith)) (p_free p (omega arith))
           (λ is. elim is [ inl h ↦ omega arith | inr h ↦ (let e : dim_in dims (place_in cells p) ≡ level = h.0 in omega arith) ])
-          (λ e. let same : dim_in dims (place_in cells p) ≡ dim_in dims (place_in cells i) = ap (λ (k : ℕ). dim_in dims (place_in cells k)) e in omega arith) ends
+          (λ e. let same : dim_in dims (place_in cells p) ≡ dim_in dims (place_in cells i) = ap (λ (k : ℕ). dim_in dims (place_in cells k)) e in omega arith)
+          ends
 
   pub level-next : {keeps : Bool} (level : ℕ) → IsReducedSoFar F m dims cells keeps (λ j. level + 1 ≤ dim_in dims (place_in cells j)) kept reduced owner
       → IsReducedSoFar F m dims cells keeps (IsDone dims cells level 0) kept reduced owner
   level-next level s = same_done laws m dims cells (λ j. level + 1 ≤ dim_in dims (place_in cells j)) (IsDone dims cells level 0) kept reduced owner
       (λ j below is. inl (omega arith)) (λ j below is. elim is [ inl h ↦ omega arith | inr h ↦ (let l : j < 0 = h.1 in absurd (omega arith)) ]) s
 
-  pub level-same : {keeps : Bool} (level level' : ℕ) → level ≡ level' → IsReducedSoFar F m dims cells keeps (λ j. level ≤ dim_in dims (place_in cells j)) kept reduced owner
+  pub level-same : {keeps : Bool} (level level' : ℕ) → level ≡ level' → IsReducedSoFar F m dims cells keeps (λ j. level ≤ dim_in dims (place_in cells j)) kept
+      reduced owner
       → IsReducedSoFar F m dims cells keeps (λ j. level' ≤ dim_in dims (place_in cells j)) kept reduced owner
-  level-same {keeps = keeps} level level' same s = subst (λ (n : ℕ). IsReducedSoFar F m dims cells keeps (λ j. n ≤ dim_in dims (place_in cells j)) kept reduced owner) same s
+  level-same {keeps = keeps} level level' same s = subst (λ (n : ℕ). IsReducedSoFar F m dims cells keeps (λ j. n ≤ dim_in dims (place_in cells j)) kept reduced
+      owner) same s
 
   pub level-end : {keeps : Bool} (level i : ℕ) → length cells ≤ i → IsReducedSoFar F m dims cells keeps (IsDone dims cells level i) kept reduced owner
       → IsReducedSoFar F m dims cells keeps (λ j. level ≤ dim_in dims (place_in cells j)) kept reduced owner
@@ -239,7 +254,8 @@ module _ {F : Arithmetic} (laws : IsField F) (m : Table) (dims cells : List ℕ)
       (λ j below is. elim is [ inl h ↦ omega arith | inr h ↦ (let e : dim_in dims (place_in cells j) ≡ level = h.0 in omega arith) ])
       (λ j below is. elim (cases_eq (dim_in dims (place_in cells j)) level) [ inl e ↦ inr (e, omega arith) | inr other ↦ inl (omega arith) ]) s
 
-  pub level-start : {keeps : Bool} (levels : ℕ) → All (λ d. d < levels) dims → length kept ≡ length cells → length reduced ≡ length cells → length owner ≡ length cells
+  pub level-start : {keeps : Bool} (levels : ℕ) → All (λ d. d < levels) dims → length kept ≡ length cells → length reduced ≡ length cells
+      → length owner ≡ length cells
       → All (λ es. es ≡ []) kept → All (λ es. es ≡ []) reduced → All (λ o. o ≡ None) owner
       → IsReducedSoFar F m dims cells keeps (λ j. levels ≤ dim_in dims (place_in cells j)) kept reduced owner
   level-start levels below kept_count reduced_count owner_count no_kept no_reduced no_owner = record {
@@ -264,13 +280,10 @@ option_some : (o : Option ℕ) → is_some o ≡ true → (k : ℕ) × (o ≡ So
 option_some None h = absurd (true≢false (sym h))
 option_some (Some k) h = (k, refl)
 
-option_none : (o : Option ℕ) → is_some o ≡ false → o ≡ None
-option_none None h = refl
-option_none (Some k) h = absurd (true≢false h)
-
 -- an owner that is read
-pub owner_some : (owner : List (Option ℕ)) (i : ℕ) (o : Option ℕ) → i < length owner → o ≡ get_or owner i o → is_some o ≡ true → (k : ℕ) × (owner_at owner i ≡ Some k)
+pub owner_some : (owner : List (Option ℕ)) (i : ℕ) (o : Option ℕ) → i < length owner → o ≡ get_or owner i o → is_some o ≡ true → (k : ℕ)
+    × (owner_at owner i ≡ Some k)
 owner_some owner i o below read h = let k = option_some o h in (k.0, sym (read ∙ get_or_default owner i o None below) ∙ k.1)
 
 pub owner_none : (owner : List (Option ℕ)) (i : ℕ) (o : Option ℕ) → i < length owner → o ≡ get_or owner i o → is_some o ≡ false → owner_at owner i ≡ None
-owner_none owner i o below read h = sym (read ∙ get_or_default owner i o None below) ∙ option_none o h
+owner_none owner i o below read h = sym (read ∙ get_or_default owner i o None below) ∙ none_from_test o h

@@ -1,29 +1,19 @@
 //! One column of the boundary of a set, reduced until it ends where no other does.
 
-ghost use Rattle.std.specs.Prelude.{◌≡◌, ◌≢◌, ◌<◌, ◌≤◌, ◌+◌, [], ◌∷◌, All, IfOk, IfSome, IfNone, ℕ, length, slice_index_or, false, true};
+ghost use Rattle.std.specs.Prelude.{◌≡◌, ◌≢◌, ◌<◌, ◌≤◌, ◌+◌, [], ◌∷◌, All, IfOk, IfSome, IfNone, ℕ, length, slice_index_or, true};
 ghost use Rattle.std.specs.List.Sorted.{IsStrictlyIncreasing};
+ghost use Rattle.conley_lists.specs.Lists.{is_listed};
 ghost use Rattle.conley_chains.specs.Chain.{coefficient, HasCodes};
 ghost use Rattle.conley_chains.specs.Matrix.{entry, column_count};
-ghost use Rattle.conley_homology.specs.Own.{is_listed, own_entries, place_in, owner_at, IsLast, IsOwnComplex, IsDone, IsEnd, IsChainFor, IsReducedSoFar};
+ghost use Rattle.conley_homology.specs.Own.{own_entries, place_in, owner_at, IsLast, IsOwnComplex, IsDone, IsEnd, IsChainFor, IsReducedSoFar};
 ghost use Rattle.conley_lefschetz.specs.Listing.{dim_in};
 
 use crate::NoMemory;
 use crate::row::reduced_as_row;
 use conley_chains::{Chain, Matrix};
 use conley_field::{Field, Scalar};
+use conley_lists::place_of;
 use std::alloc::Global;
-
-/// Where a cell stands in an ascending list.
-fn position(set: &[u32], cell: u32) -> Option<usize>
-    requires { IsStrictlyIncreasing set.now }
-    ensures some { IfSome result (λ i. (i < length set.now) × (place_in set.now i ≡ cell)) }
-    ensures none { IfNone result (is_listed set.now cell ≡ false) }
-{
-    match set.binary_search(&cell) {
-        Ok(place) => Some(place),
-        Err(_) => None,
-    }
-}
 
 /// The last entry of a chain.
 fn last(chain: &Chain) -> Option<(u32, Scalar)>
@@ -48,16 +38,16 @@ fn own_column(alloc: Global, boundary: &Matrix, set: &[u32], cell: u32) -> Resul
 {
     let mut kept = Vec::new(alloc);
     for e in boundary.column(cell).entries() {
-        if position(set, e.0).is_some() {
+        if place_of(set, e.0).is_some() {
             kept.push(*e)?;
         }
     }
     Ok(Chain::from_pairs(alloc, &kept)?)
 }
 
-/// The cells of a set in a complex, and whether the chains are kept whose boundaries are reduced.
+/// A set of cells in a complex, and whether the chains are kept whose boundaries are reduced.
 #[derive(Drop)]
-pub(crate) struct Part<'a> {
+pub(crate) struct CellSet<'a> {
     pub(crate) boundary: &'a Matrix,
     pub(crate) dims: &'a [u8],
     pub(crate) set: &'a [u32],
@@ -89,7 +79,7 @@ fn end_of(set: &[u32], chain: &Chain) -> usize
 {
     match last(chain) {
         None => 0,
-        Some(e) => match position(set, e.0) {
+        Some(e) => match place_of(set, e.0) {
             None => 0,
             Some(place) => place + 1,
         },
@@ -136,39 +126,40 @@ fn first_kept<F: Field>(alloc: Global, field: &F, keeps: bool, cell: u32) -> Res
 pub(crate) fn reduced_column<F: Field>(
     alloc: Global,
     field: &F,
-    part: &Part,
+    cells: &CellSet,
     columns: &Columns,
     i: usize,
 ) -> Result<Column, NoMemory>
-    requires complex { IsOwnComplex (F.arithmetic field.now) part.now.boundary.now part.now.dims.now part.now.set.now }
-    requires so_far { IsReducedSoFar (F.arithmetic field.now) part.now.boundary.now part.now.dims.now part.now.set.now part.now.keeps
-        (IsDone part.now.dims.now part.now.set.now (dim_in part.now.dims.now (place_in part.now.set.now i)) i)
+    requires complex { IsOwnComplex (F.arithmetic field.now) cells.now.boundary.now cells.now.dims.now cells.now.set.now }
+    requires so_far { IsReducedSoFar (F.arithmetic field.now) cells.now.boundary.now cells.now.dims.now cells.now.set.now cells.now.keeps
+        (IsDone cells.now.dims.now cells.now.set.now (dim_in cells.now.dims.now (place_in cells.now.set.now i)) i)
         columns.now.kept.items columns.now.reduced.items columns.now.owner.items }
-    requires cell { i < length part.now.set.now }
-    ensures chains { IfOk result (λ column. IsChainFor (F.arithmetic field.now) part.now.boundary.now part.now.dims.now part.now.set.now part.now.keeps i column.kept column.reduced) }
-    ensures end { IfOk result (λ column. IsEnd part.now.set.now column.reduced column.end) }
+    requires cell { i < length cells.now.set.now }
+    ensures chains { IfOk result (λ column. IsChainFor (F.arithmetic field.now) cells.now.boundary.now cells.now.dims.now cells.now.set.now cells.now.keeps i
+        column.kept column.reduced) }
+    ensures end { IfOk result (λ column. IsEnd cells.now.set.now column.reduced column.end) }
     ensures free { IfOk result (λ column. (p : ℕ) → column.end ≡ p + 1 → owner_at columns.now.owner.items p ≡ None) }
 {
-    let cell = part.set[i];
-    let mut kept = first_kept(alloc, field, part.keeps, cell)?;
-    let mut reduced = own_column(alloc, part.boundary, part.set, cell)?;
-    let mut end = end_of(part.set, &reduced);
+    let cell = cells.set[i];
+    let mut kept = first_kept(alloc, field, cells.keeps, cell)?;
+    let mut reduced = own_column(alloc, cells.boundary, cells.set, cell)?;
+    let mut end = end_of(cells.set, &reduced);
     while let Some(source) = owner_of(&columns.owner, end) {
-        if reduced.entries().len() > part.set.len() / 16 {
+        if reduced.entries().len() > cells.set.len() / 16 {
             return reduced_as_row(
                 alloc,
                 field,
-                part,
+                cells,
                 columns,
                 i,
                 Column { kept, reduced, end },
             );
         }
         let other = &columns.reduced[source as usize];
-        let by = multiple(field, &reduced, other, part.set[end - 1]);
+        let by = multiple(field, &reduced, other, cells.set[end - 1]);
         reduced = reduced.plus(alloc, field, by, other)?;
         kept = kept.plus(alloc, field, by, &columns.kept[source as usize])?;
-        end = end_of(part.set, &reduced);
+        end = end_of(cells.set, &reduced);
     }
     Ok(Column { kept, reduced, end })
 }

@@ -6,7 +6,7 @@ ghost use Rattle.conley_faces.specs.Face.{IsCellList, IsLocallyClosed};
 ghost use Rattle.conley_lefschetz.specs.Conley.{IsRegular, IsConleyBasis, AreConleyNumbers};
 
 use crate::NoMemory;
-use crate::column::Part;
+use crate::column::CellSet;
 use crate::elimination::eliminated;
 use conley_field::Field;
 use conley_lefschetz::{Complex, conley_numbers_are_one, regular_sets_have_zeros};
@@ -50,16 +50,16 @@ fn of_columns<F: Field>(
     ensures { IfOk result (λ numbers. AreConleyNumbers (F.arithmetic complex.now.0) complex.now.1 set.now numbers.items) }
 {
     let levels = complex.levels();
-    let part = Part {
+    let cells = CellSet {
         boundary: complex.boundary(),
         dims: complex.dims(),
         set,
         keeps: false,
     };
-    let columns = eliminated(alloc, complex.field(), &part, levels)?;
+    let columns = eliminated(alloc, complex.field(), &cells, levels)?;
     let mut numbers = Vec::new(alloc);
     for level in 0..levels {
-        numbers.push(columns.count(&part, level))?;
+        numbers.push(columns.count(&cells, level))?;
     }
     Ok(numbers)
 }
@@ -97,7 +97,7 @@ pub fn numbers<F: Field>(
 }
 
 /// Whether all numbers are 0.
-fn are_zero(numbers: &[u32]) -> bool
+pub fn are_zero(numbers: &[u32]) -> bool
     ensures { IsTrue result ↔ All (λ r. r ≡ 0) numbers.now }
 {
     numbers.iter().all(|r| *r == 0)

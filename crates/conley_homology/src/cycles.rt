@@ -7,7 +7,7 @@ ghost use Rattle.conley_lefschetz.specs.Conley.{IsRegular, IsConleyBasis, AreCon
 ghost use Rattle.conley_homology.specs.Homology.{IsHomology};
 
 use crate::NoMemory;
-use crate::column::Part;
+use crate::column::CellSet;
 use crate::elimination::eliminated;
 use conley_chains::Chain;
 use conley_field::Field;
@@ -38,17 +38,17 @@ pub fn relative<F: Field>(
         IsConleyBasis (F.arithmetic complex.now.0) complex.now.1 set.now k r z → r ≡ slice_index h.numbers.items k) }
 {
     let levels = complex.levels();
-    let part = Part {
+    let cells = CellSet {
         boundary: complex.boundary(),
         dims: complex.dims(),
         set,
         keeps: true,
     };
-    let columns = eliminated(alloc, complex.field(), &part, levels)?;
+    let columns = eliminated(alloc, complex.field(), &cells, levels)?;
     let mut numbers = Vec::new(alloc);
     let mut cycles = Vec::new(alloc);
     for level in 0..levels {
-        numbers.push(columns.collect(alloc, &part, level, &mut cycles)?)?;
+        numbers.push(columns.collect(alloc, &cells, level, &mut cycles)?)?;
     }
     Ok(Homology { numbers, cycles })
 }

@@ -6,7 +6,7 @@ ghost use Rattle.conley_homology.specs.Own.{place_in, IsOwnComplex, IsDone, IsRe
 ghost use Rattle.conley_lefschetz.specs.Listing.{dim_in};
 
 use crate::NoMemory;
-use crate::column::{Column, Columns, Part, reduced_column};
+use crate::column::{CellSet, Column, Columns, reduced_column};
 use conley_chains::Chain;
 use conley_field::Field;
 use std::alloc::Global;
@@ -56,26 +56,26 @@ impl Columns {
         &mut self,
         alloc: Global,
         field: &F,
-        part: &Part,
+        cells: &CellSet,
         level: usize,
         i: usize,
     ) -> Result<(), NoMemory>
-        requires complex { IsOwnComplex (F.arithmetic field.now) part.now.boundary.now part.now.dims.now part.now.set.now }
-        requires cell { i < length part.now.set.now }
-        requires so_far { IsReducedSoFar (F.arithmetic field.now) part.now.boundary.now part.now.dims.now part.now.set.now part.now.keeps
-            (IsDone part.now.dims.now part.now.set.now level i)
+        requires complex { IsOwnComplex (F.arithmetic field.now) cells.now.boundary.now cells.now.dims.now cells.now.set.now }
+        requires cell { i < length cells.now.set.now }
+        requires so_far { IsReducedSoFar (F.arithmetic field.now) cells.now.boundary.now cells.now.dims.now cells.now.set.now cells.now.keeps
+            (IsDone cells.now.dims.now cells.now.set.now level i)
             self.old.kept.items self.old.reduced.items self.old.owner.items }
-        ensures so_far { OnOk result (IsReducedSoFar (F.arithmetic field.now) part.now.boundary.now part.now.dims.now part.now.set.now part.now.keeps
-            (IsDone part.now.dims.now part.now.set.now level (i + 1))
+        ensures so_far { OnOk result (IsReducedSoFar (F.arithmetic field.now) cells.now.boundary.now cells.now.dims.now cells.now.set.now cells.now.keeps
+            (IsDone cells.now.dims.now cells.now.set.now level (i + 1))
             self.new.kept.items self.new.reduced.items self.new.owner.items) }
     {
-        if part.dims[part.set[i] as usize] as usize != level {
+        if cells.dims[cells.set[i] as usize] as usize != level {
             return Ok(());
         }
         if self.owner[i].is_some() {
             return Ok(());
         }
-        let column = reduced_column(alloc, field, part, self, i)?;
+        let column = reduced_column(alloc, field, cells, self, i)?;
         self.put(i, column);
         Ok(())
     }
@@ -85,19 +85,19 @@ impl Columns {
         &mut self,
         alloc: Global,
         field: &F,
-        part: &Part,
+        cells: &CellSet,
         level: usize,
     ) -> Result<(), NoMemory>
-        requires complex { IsOwnComplex (F.arithmetic field.now) part.now.boundary.now part.now.dims.now part.now.set.now }
-        requires so_far { IsReducedSoFar (F.arithmetic field.now) part.now.boundary.now part.now.dims.now part.now.set.now part.now.keeps
-            (λ j. level + 1 ≤ dim_in part.now.dims.now (place_in part.now.set.now j))
+        requires complex { IsOwnComplex (F.arithmetic field.now) cells.now.boundary.now cells.now.dims.now cells.now.set.now }
+        requires so_far { IsReducedSoFar (F.arithmetic field.now) cells.now.boundary.now cells.now.dims.now cells.now.set.now cells.now.keeps
+            (λ j. level + 1 ≤ dim_in cells.now.dims.now (place_in cells.now.set.now j))
             self.old.kept.items self.old.reduced.items self.old.owner.items }
-        ensures so_far { OnOk result (IsReducedSoFar (F.arithmetic field.now) part.now.boundary.now part.now.dims.now part.now.set.now part.now.keeps
-            (λ j. level ≤ dim_in part.now.dims.now (place_in part.now.set.now j))
+        ensures so_far { OnOk result (IsReducedSoFar (F.arithmetic field.now) cells.now.boundary.now cells.now.dims.now cells.now.set.now cells.now.keeps
+            (λ j. level ≤ dim_in cells.now.dims.now (place_in cells.now.set.now j))
             self.new.kept.items self.new.reduced.items self.new.owner.items) }
     {
-        for i in 0..part.set.len() {
-            self.reduce_cell(alloc, field, part, level, i)?;
+        for i in 0..cells.set.len() {
+            self.reduce_cell(alloc, field, cells, level, i)?;
         }
         Ok(())
     }
@@ -107,20 +107,20 @@ impl Columns {
 pub(crate) fn eliminated<F: Field>(
     alloc: Global,
     field: &F,
-    part: &Part,
+    cells: &CellSet,
     levels: usize,
 ) -> Result<Columns, NoMemory>
-    requires complex { IsOwnComplex (F.arithmetic field.now) part.now.boundary.now part.now.dims.now part.now.set.now }
-    requires levels { All (λ dim. dim < levels) part.now.dims.now }
-    ensures { IfOk result (λ columns. IsReducedSoFar (F.arithmetic field.now) part.now.boundary.now part.now.dims.now part.now.set.now part.now.keeps
-        (λ j. 0 ≤ dim_in part.now.dims.now (place_in part.now.set.now j))
+    requires complex { IsOwnComplex (F.arithmetic field.now) cells.now.boundary.now cells.now.dims.now cells.now.set.now }
+    requires levels { All (λ dim. dim < levels) cells.now.dims.now }
+    ensures { IfOk result (λ columns. IsReducedSoFar (F.arithmetic field.now) cells.now.boundary.now cells.now.dims.now cells.now.set.now cells.now.keeps
+        (λ j. 0 ≤ dim_in cells.now.dims.now (place_in cells.now.set.now j))
         columns.kept.items columns.reduced.items columns.owner.items) }
 {
-    let mut columns = Columns::start(alloc, part.set.len())?;
+    let mut columns = Columns::start(alloc, cells.set.len())?;
     let mut level = levels;
     while level > 0 {
         level -= 1;
-        columns.reduce_level(alloc, field, part, level)?;
+        columns.reduce_level(alloc, field, cells, level)?;
     }
     Ok(columns)
 }

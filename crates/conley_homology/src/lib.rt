@@ -11,7 +11,7 @@ mod cycles;
 mod elimination;
 mod row;
 
-pub use counting::{is_regular, numbers};
+pub use counting::{are_zero, is_regular, numbers};
 pub use cycles::{Homology, relative};
 use std::alloc::AllocError;
 

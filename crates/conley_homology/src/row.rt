@@ -7,7 +7,7 @@ ghost use Rattle.conley_homology.specs.Row.{IsRowFor};
 ghost use Rattle.conley_lefschetz.specs.Listing.{dim_in};
 
 use crate::NoMemory;
-use crate::column::{Column, Columns, Part, owner_of};
+use crate::column::{CellSet, Column, Columns, owner_of};
 use conley_chains::Chain;
 use conley_field::{Field, Scalar};
 use std::alloc::Global;
@@ -57,32 +57,33 @@ fn multiple_of<F: Field>(field: &F, code: Scalar, source: Scalar) -> Scalar
 fn reduced_row<F: Field>(
     alloc: Global,
     field: &F,
-    part: &Part,
+    cells: &CellSet,
     columns: &Columns,
     i: usize,
     row: &mut [Scalar],
     kept: Chain,
     from: usize,
 ) -> Result<Column, NoMemory>
-    requires complex { IsOwnComplex (F.arithmetic field.now) part.now.boundary.now part.now.dims.now part.now.set.now }
-    requires so_far { IsReducedSoFar (F.arithmetic field.now) part.now.boundary.now part.now.dims.now part.now.set.now part.now.keeps
-        (IsDone part.now.dims.now part.now.set.now (dim_in part.now.dims.now (place_in part.now.set.now i)) i)
+    requires complex { IsOwnComplex (F.arithmetic field.now) cells.now.boundary.now cells.now.dims.now cells.now.set.now }
+    requires so_far { IsReducedSoFar (F.arithmetic field.now) cells.now.boundary.now cells.now.dims.now cells.now.set.now cells.now.keeps
+        (IsDone cells.now.dims.now cells.now.set.now (dim_in cells.now.dims.now (place_in cells.now.set.now i)) i)
         columns.now.kept.items columns.now.reduced.items columns.now.owner.items }
-    requires cell { i < length part.now.set.now }
-    requires row { IsRowFor (F.arithmetic field.now) part.now.boundary.now part.now.dims.now part.now.set.now part.now.keeps i kept row.old from }
-    ensures chains { IfOk result (λ column. IsChainFor (F.arithmetic field.now) part.now.boundary.now part.now.dims.now part.now.set.now part.now.keeps i column.kept column.reduced) }
-    ensures end { IfOk result (λ column. IsEnd part.now.set.now column.reduced column.end) }
+    requires cell { i < length cells.now.set.now }
+    requires row { IsRowFor (F.arithmetic field.now) cells.now.boundary.now cells.now.dims.now cells.now.set.now cells.now.keeps i kept row.old from }
+    ensures chains { IfOk result (λ column. IsChainFor (F.arithmetic field.now) cells.now.boundary.now cells.now.dims.now cells.now.set.now cells.now.keeps i
+        column.kept column.reduced) }
+    ensures end { IfOk result (λ column. IsEnd cells.now.set.now column.reduced column.end) }
     ensures free { IfOk result (λ column. (p : ℕ) → column.end ≡ p + 1 → owner_at columns.now.owner.items p ≡ None) }
 {
     let mut kept = kept;
     let mut end = from;
     while let Some(source) = owner_of(&columns.owner, end) {
         let other = &columns.reduced[source as usize];
-        let cell = part.set[end - 1];
+        let cell = cells.set[end - 1];
         let by = multiple_of(field, row[cell as usize], other.entry(cell));
         other.add_to(field, by, row);
         kept = kept.plus(alloc, field, by, &columns.kept[source as usize])?;
-        end = end_in(part.set, row, end);
+        end = end_in(cells.set, row, end);
     }
     let reduced = Chain::from_row(alloc, row)?;
     Ok(Column { kept, reduced, end })
@@ -92,24 +93,26 @@ fn reduced_row<F: Field>(
 pub(crate) fn reduced_as_row<F: Field>(
     alloc: Global,
     field: &F,
-    part: &Part,
+    cells: &CellSet,
     columns: &Columns,
     i: usize,
     column: Column,
 ) -> Result<Column, NoMemory>
-    requires complex { IsOwnComplex (F.arithmetic field.now) part.now.boundary.now part.now.dims.now part.now.set.now }
-    requires so_far { IsReducedSoFar (F.arithmetic field.now) part.now.boundary.now part.now.dims.now part.now.set.now part.now.keeps
-        (IsDone part.now.dims.now part.now.set.now (dim_in part.now.dims.now (place_in part.now.set.now i)) i)
+    requires complex { IsOwnComplex (F.arithmetic field.now) cells.now.boundary.now cells.now.dims.now cells.now.set.now }
+    requires so_far { IsReducedSoFar (F.arithmetic field.now) cells.now.boundary.now cells.now.dims.now cells.now.set.now cells.now.keeps
+        (IsDone cells.now.dims.now cells.now.set.now (dim_in cells.now.dims.now (place_in cells.now.set.now i)) i)
         columns.now.kept.items columns.now.reduced.items columns.now.owner.items }
-    requires cell { i < length part.now.set.now }
-    requires chains { IsChainFor (F.arithmetic field.now) part.now.boundary.now part.now.dims.now part.now.set.now part.now.keeps i column.kept column.reduced }
-    requires end { IsEnd part.now.set.now column.reduced column.end }
-    ensures chains { IfOk result (λ column. IsChainFor (F.arithmetic field.now) part.now.boundary.now part.now.dims.now part.now.set.now part.now.keeps i column.kept column.reduced) }
-    ensures end { IfOk result (λ column. IsEnd part.now.set.now column.reduced column.end) }
+    requires cell { i < length cells.now.set.now }
+    requires chains { IsChainFor (F.arithmetic field.now) cells.now.boundary.now cells.now.dims.now cells.now.set.now cells.now.keeps i column.kept
+        column.reduced }
+    requires end { IsEnd cells.now.set.now column.reduced column.end }
+    ensures chains { IfOk result (λ column. IsChainFor (F.arithmetic field.now) cells.now.boundary.now cells.now.dims.now cells.now.set.now cells.now.keeps i
+        column.kept column.reduced) }
+    ensures end { IfOk result (λ column. IsEnd cells.now.set.now column.reduced column.end) }
     ensures free { IfOk result (λ column. (p : ℕ) → column.end ≡ p + 1 → owner_at columns.now.owner.items p ≡ None) }
 {
     let Column { kept, reduced, end } = column;
-    let mut row = zeros(alloc, part.dims.len())?;
+    let mut row = zeros(alloc, cells.dims.len())?;
     reduced.add_to(field, field.one(), &mut row);
-    reduced_row(alloc, field, part, columns, i, &mut row, kept, end)
+    reduced_row(alloc, field, cells, columns, i, &mut row, kept, end)
 }

@@ -94,8 +94,10 @@ module _ {F : Arithmetic} (laws : IsField F) {below : ℕ → ℕ → Type 0} (o
   carried-down : (A B : Generators) (u k v : Entries) → OnlyWhere (IsLevel below A B) u → OnlyWhere (IsRaised below B) k → OnlyWhere (IsLevel below B A) v
       → OnlyWhere (IsRaised below A) (between F B.count u v k)
   carried-down A B u k v u_down k_down v_down =
-      product-OnlyWhere laws {R = λ x y. (A.dim x ≡ B.dim y + 1) × below (A.base x) (B.base y)} {S = IsLevel below B A} {T = IsRaised below A} B.count (product_of F B.count u k) v (raised-back A B)
-      (product-OnlyWhere laws {R = IsLevel below A B} {S = IsRaised below B} {T = λ x y. (A.dim x ≡ B.dim y + 1) × below (A.base x) (B.base y)} B.count u k (raised-through A B) u_down k_down) v_down
+      product-OnlyWhere laws {R = λ x y. (A.dim x ≡ B.dim y + 1) × below (A.base x) (B.base y)} {S = IsLevel below B A} {T = IsRaised below A} B.count
+      (product_of F B.count u k) v (raised-back A B)
+      (product-OnlyWhere laws {R = IsLevel below A B} {S = IsRaised below B} {T = λ x y. (A.dim x ≡ B.dim y + 1) × below (A.base x) (B.base y)} B.count u k
+      (raised-through A B) u_down k_down) v_down
 
   -- two graded equivalences make one
   pub composed-IsGradedEquivalence : (A B C : Generators) (first second : Maps) → IsGradedEquivalence F below A B first → IsGradedEquivalence F below B C second
@@ -104,13 +106,19 @@ module _ {F : Arithmetic} (laws : IsField F) {below : ℕ → ℕ → Type 0} (o
     phi_matrix = matrices.product-is_matrix laws A.count B.count C.count first.phi second.phi f.phi_matrix s.phi_matrix;
     psi_matrix = matrices.product-is_matrix laws C.count B.count A.count second.psi first.psi s.psi_matrix f.psi_matrix;
     gamma_matrix = matrices.plus-is_matrix laws A.count A.count _ _ f.gamma_matrix
-        (matrices.product-is_matrix laws A.count B.count A.count _ _ (matrices.product-is_matrix laws A.count B.count B.count _ _ f.phi_matrix s.gamma_matrix) f.psi_matrix);
+        (matrices.product-is_matrix laws A.count B.count A.count _ _ (matrices.product-is_matrix laws A.count B.count B.count _ _ f.phi_matrix s.gamma_matrix)
+        f.psi_matrix);
     gamma2_matrix = matrices.plus-is_matrix laws C.count C.count _ _ s.gamma2_matrix
-        (matrices.product-is_matrix laws C.count B.count C.count _ _ (matrices.product-is_matrix laws C.count B.count B.count _ _ s.psi_matrix f.gamma2_matrix) s.phi_matrix);
-    phi_down = product-OnlyWhere laws {R = IsLevel below A B} {S = IsLevel below B C} {T = IsLevel below A C} B.count first.phi second.phi (level-through A B C) f.phi_down s.phi_down;
-    psi_down = product-OnlyWhere laws {R = IsLevel below C B} {S = IsLevel below B A} {T = IsLevel below C A} B.count second.psi first.psi (level-through C B A) s.psi_down f.psi_down;
-    gamma_down = plus-OnlyWhere laws {R = IsRaised below A} first.gamma _ f.gamma_down (carried-down A B first.phi second.gamma first.psi f.phi_down s.gamma_down f.psi_down);
-    gamma2_down = plus-OnlyWhere laws {R = IsRaised below C} second.gamma2 _ s.gamma2_down (carried-down C B second.psi first.gamma2 second.phi s.psi_down f.gamma2_down s.phi_down);
+        (matrices.product-is_matrix laws C.count B.count C.count _ _ (matrices.product-is_matrix laws C.count B.count B.count _ _ s.psi_matrix f.gamma2_matrix)
+        s.phi_matrix);
+    phi_down = product-OnlyWhere laws {R = IsLevel below A B} {S = IsLevel below B C} {T = IsLevel below A C} B.count first.phi second.phi
+        (level-through A B C) f.phi_down s.phi_down;
+    psi_down = product-OnlyWhere laws {R = IsLevel below C B} {S = IsLevel below B A} {T = IsLevel below C A} B.count second.psi first.psi
+        (level-through C B A) s.psi_down f.psi_down;
+    gamma_down = plus-OnlyWhere laws {R = IsRaised below A} first.gamma _ f.gamma_down (carried-down A B first.phi second.gamma first.psi f.phi_down
+        s.gamma_down f.psi_down);
+    gamma2_down = plus-OnlyWhere laws {R = IsRaised below C} second.gamma2 _ s.gamma2_down
+        (carried-down C B second.psi first.gamma2 second.phi s.psi_down f.gamma2_down s.phi_down);
     phi_commutes = at_places (
         sym (matrices.product-assoc laws A.count B.count d first.phi second.phi) ∙ ap (λ t. P B.count t second.phi) phi_1
         ∙ matrices.product-assoc laws B.count B.count first.phi B.boundary second.phi ∙ ap (P B.count first.phi) phi_2
@@ -120,7 +128,8 @@ module _ {F : Arithmetic} (laws : IsField F) {below : ℕ → ℕ → Type 0} (o
         ∙ matrices.product-assoc laws B.count B.count second.psi B.boundary first.psi ∙ ap (P B.count second.psi) psi_1
         ∙ sym (matrices.product-assoc laws B.count A.count second.psi first.psi d));
     phi_psi = plus-minus laws I_A _ _ (λ row column. laws.add_below _ _)
-        (first_home ∙ ap (λ t. plus_of F t H_A) (into_phi_psi ∙ ap (S_A) second_home ∙ between-plus laws B.count first.phi first.psi (P C.count second.phi second.psi) K_B
+        (first_home ∙ ap (λ t. plus_of F t H_A) (into_phi_psi ∙ ap (S_A) second_home ∙ between-plus laws B.count first.phi first.psi
+        (P C.count second.phi second.psi) K_B
         ∙ ap (λ t. plus_of F t (S_A K_B)) (between-product laws B.count first.phi first.psi C.count second.phi second.psi))
         ∙ matrices.plus-assoc laws (P C.count big_phi big_psi) (S_A K_B) H_A ∙ ap (plus_of F (P C.count big_phi big_psi)) (matrices.plus-comm laws (S_A K_B) H_A
         ∙ sym (between-homotopy laws B.count first.phi first.psi A.count A.boundary B.boundary first.gamma second.gamma phi_1 psi_1)));
@@ -192,10 +201,12 @@ module _ {F : Arithmetic} (laws : IsField F) {below : ℕ → ℕ → Type 0} (o
     second_home = minus-plus laws I_B (P C.count second.phi second.psi) K_B (identity-codes laws B.count) (λ row column. laws.add_below _ _) s.phi_psi
 
     first_back : P A.count first.psi first.phi ≡ plus_of F I_B H_B
-    first_back = minus-plus laws (P A.count first.psi first.phi) I_B H_B (λ row column. sums.sum_below-below laws A.count _) (λ row column. laws.add_below _ _) f.psi_phi
+    first_back = minus-plus laws (P A.count first.psi first.phi) I_B H_B (λ row column. sums.sum_below-below laws A.count _) (λ row column. laws.add_below _ _)
+        f.psi_phi
 
     second_back : P B.count second.psi second.phi ≡ plus_of F I_C K_C
-    second_back = minus-plus laws (P B.count second.psi second.phi) I_C K_C (λ row column. sums.sum_below-below laws B.count _) (λ row column. laws.add_below _ _) s.psi_phi
+    second_back = minus-plus laws (P B.count second.psi second.phi) I_C K_C (λ row column. sums.sum_below-below laws B.count _)
+        (λ row column. laws.add_below _ _) s.psi_phi
 
     into_phi_psi : P B.count first.phi first.psi ≡ S_A I_B
     into_phi_psi = sym (ap (λ t. P B.count t first.psi) (matrices.product-identity laws A.count B.count first.phi f.phi_matrix))

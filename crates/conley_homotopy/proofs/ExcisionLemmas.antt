@@ -71,7 +71,8 @@ module _ {F : Arithmetic} (laws : IsField F) (n : ℕ) (d : Entries) (dim : ℕ 
   image-closure : (v : Vector) → ((x : ℕ) → v x ≢ 0 → closure x) → (y : ℕ) → image_of F n d v y ≢ 0 → closure y
   image-closure v on y some =
       let found : (x : ℕ) × ((x < n) × (F.mul (d y x) (v x) ≢ 0)) = sums.sum_below-not_zero laws n (λ x. F.mul (d y x) (v x)) some in
-      shape.closure_faces y found.0 (sums.mul-not_zero_left laws (d y found.0) (v found.0) found.1.1) (on found.0 (sums.mul-not_zero_right laws (d y found.0) (v found.0) found.1.1))
+      shape.closure_faces y found.0 (sums.mul-not_zero_left laws (d y found.0) (v found.0) found.1.1)
+      (on found.0 (sums.mul-not_zero_right laws (d y found.0) (v found.0) found.1.1))
 
   nothing : (v : Vector) → ((x : ℕ) → v x ≢ 0 → ⊥) → (x : ℕ) → v x ≡ 0
   nothing v never x = elim (cases_eq (v x) 0) [ inl none ↦ none | inr some ↦ absurd (never x some) ]
@@ -105,7 +106,8 @@ module _ {F : Arithmetic} (laws : IsField F) (n : ℕ) (d : Entries) (dim : ℕ 
       codes = λ y. sums.sum_below-below laws n _;
       only = λ y some. elim (cases_Bool (inside y)) [
         | inr h ↦ shape.rest_mouth y (image-closure v on y some) h
-        | inl h ↦ absurd (c.on_mouth.only y (λ none. some (image-own v on y h ∙ ap (λ (t : Vector). image_of F n own t y) (fun_ext (kept-kept v c.chain.only)) ∙ none)))
+        | inl h ↦ absurd (c.on_mouth.only y (λ none. some (image-own v on y h ∙ ap (λ (t : Vector). image_of F n own t y) (fun_ext (kept-kept v c.chain.only))
+            ∙ none)))
       ];
     };
   } where
@@ -140,18 +142,21 @@ module _ {F : Arithmetic} (laws : IsField F) (n : ℕ) (d : Entries) (dim : ℕ 
       | inr some ↦ absurd (true≢false (sym (z_inside i below x some) ∙ h))
     ])
 
-    expressed_own : (v a : Vector) → IsExpressed F (IsRelativeBoundary F n d closure mouth) r z v a → IsExpressed F (IsRelativeBoundary F n own Inside Nowhere) r z (kept v) a
+    expressed_own : (v a : Vector) → IsExpressed F (IsRelativeBoundary F n d closure mouth) r z v a
+        → IsExpressed F (IsRelativeBoundary F n own Inside Nowhere) r z (kept v) a
     expressed_own v a e = record {
       codes = e.codes;
       rest = kept e.rest;
       in_B = own_rest e.rest e.in_B;
       is = λ x. elim (cases_Bool (inside x)) [
         | inl h ↦ kept-inside v x h ∙ e.is x ∙ ap (F.add (combination F r z a x)) (sym (kept-inside e.rest x h))
-        | inr h ↦ kept-outside v x h ∙ sym (ap (λ t. F.add t (kept e.rest x)) (sum-outside a x h) ∙ ap (F.add 0) (kept-outside e.rest x h) ∙ sums.add_zero_zero laws)
+        | inr h ↦ kept-outside v x h ∙ sym (ap (λ t. F.add t (kept e.rest x)) (sum-outside a x h) ∙ ap (F.add 0) (kept-outside e.rest x h)
+            ∙ sums.add_zero_zero laws)
       ];
     }
 
-    module _ (v : Vector) (c : IsRelativeCycle F n d closure mouth v) (a : Vector) (e : IsExpressed F (IsRelativeBoundary F n (own_boundary inside d) (λ x. inside x ≡ true) (λ x. ⊥)) r z (kept v) a) where
+    module _ (v : Vector) (c : IsRelativeCycle F n d closure mouth v) (a : Vector) (e : IsExpressed F
+        (IsRelativeBoundary F n (own_boundary inside d) (λ x. inside x ≡ true) (λ x. ⊥)) r z (kept v) a) where
       w : Vector
       w = e.in_B.of
 
@@ -170,7 +175,8 @@ module _ {F : Arithmetic} (laws : IsField F) (n : ℕ) (d : Entries) (dim : ℕ 
       rest-inside x h =
           e.in_B.is x ∙ ap (F.add (image_of F n (own_boundary inside d) e.in_B.of x)) (nothing e.in_B.part e.in_B.part_chain.only x)
           ∙ laws.add_zero _ (sums.sum_below-below laws n _)
-          ∙ sym (image-own e.in_B.of w_closure x h ∙ ap (λ (t : Vector). image_of F n (own_boundary inside d) t x) (fun_ext (kept-kept e.in_B.of e.in_B.of_chain.only)))
+          ∙ sym (image-own e.in_B.of w_closure x h ∙ ap (λ (t : Vector). image_of F n (own_boundary inside d) t x)
+          (fun_ext (kept-kept e.in_B.of e.in_B.of_chain.only)))
 
       part-inside : (x : ℕ) → inside x ≡ true → part x ≡ 0
       unfolding part rest
@@ -184,7 +190,8 @@ module _ {F : Arithmetic} (laws : IsField F) (n : ℕ) (d : Entries) (dim : ℕ 
       unfolding part rest
       part-nothing x h none no_boundary =
           ap (λ t. F.add (F.add (v x) (F.neg (combination F r z a x))) (F.neg t)) no_boundary
-          ∙ ap (λ t. F.add t (F.neg 0)) (ap (λ t. F.add t (F.neg (combination F r z a x))) none ∙ ap (λ t. F.add 0 (F.neg t)) (sum-outside a x h) ∙ laws.add_neg 0)
+          ∙ ap (λ t. F.add t (F.neg 0)) (ap (λ t. F.add t (F.neg (combination F r z a x))) none ∙ ap (λ t. F.add 0 (F.neg t)) (sum-outside a x h)
+          ∙ laws.add_neg 0)
           ∙ laws.add_neg 0
 
       part-mouth : (x : ℕ) → part x ≢ 0 → mouth x

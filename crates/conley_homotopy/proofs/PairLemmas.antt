@@ -64,7 +64,8 @@ module _ {F : Arithmetic} (laws : IsField F) {below : ℕ → ℕ → Type 0} (o
     psi_commutes = pair-psi_commutes laws L.count L.boundary complex.matrix dd K Q K_below Q_below differ unit s list listing beyond;
     phi_psi = pair-phi_psi laws L.count L.boundary complex.matrix dd K Q K_below Q_below differ unit s list listing beyond;
     psi_phi = λ i j.
-        ap (λ t. F.add t (F.neg (identity_of s i j))) (pair-psi_phi laws L.count L.boundary complex.matrix dd K Q K_below Q_below differ unit s list listing beyond i j) ∙ laws.add_neg (identity_of s i j)
+        ap (λ t. F.add t (F.neg (identity_of s i j))) (pair-psi_phi laws L.count L.boundary complex.matrix dd K Q K_below Q_below differ unit s list listing
+        beyond i j) ∙ laws.add_neg (identity_of s i j)
         ∙ sym (ap (λ t. F.add t (product_of F s zero_entries W i j)) (ap (λ (e : Entries). e i j) (matrices.product-zero laws s W))
         ∙ ap (λ (e : Entries). F.add 0 (e i j)) (matrices.zero-product laws s W) ∙ sums.add_zero_zero laws);
   } where
@@ -78,10 +79,11 @@ module _ {F : Arithmetic} (laws : IsField F) {below : ℕ → ℕ → Type 0} (o
   without_pair-IsGradedComplex = record {
     matrix = small_boundary-matrix laws L.count L.boundary complex.matrix dd K Q K_below Q_below differ unit s list listing beyond;
     squares = small_boundary-squares laws L.count L.boundary complex.matrix dd K Q K_below Q_below differ unit s list listing beyond;
-    one_down = λ h e some. elim (small_boundary-where laws L.count L.boundary complex.matrix dd K Q K_below Q_below differ unit s list listing beyond h e some) [
-      | inl direct ↦ complex.one_down (list h) (list e) direct
-      | inr pair ↦ complex.one_down Q (list e) pair.1 ∙ sym (complex.one_down Q K unit) ∙ complex.one_down (list h) K pair.0
-    ];
+    one_down = λ h e some. elim (small_boundary-where laws L.count L.boundary complex.matrix dd K Q K_below Q_below differ unit s list listing beyond
+        h e some) [
+          | inl direct ↦ complex.one_down (list h) (list e) direct
+          | inr pair ↦ complex.one_down Q (list e) pair.1 ∙ sym (complex.one_down Q K unit) ∙ complex.one_down (list h) K pair.0
+        ];
     down = λ h e some. elim (small_boundary-where laws L.count L.boundary complex.matrix dd K Q K_below Q_below differ unit s list listing beyond h e some) [
       | inl direct ↦ complex.down (list h) (list e) direct
       | inr pair ↦ order.transitive _ _ _ (complex.down (list h) K pair.0) (order.transitive _ _ _ K_under (complex.down Q (list e) pair.1))

@@ -62,7 +62,8 @@ module _ {F : Arithmetic} (laws : IsField F) (n : ℕ) (d : Entries) (d_matrix :
 
   pub gd-row : (z : ℕ) → product_of F n g d K z ≡ F.mul (F.inv (d Q K)) (d Q z)
   gd-row z =
-      sums.sum_below-single laws n (λ k. F.mul (g K k) (d k z)) Q Q_below (laws.mul_below _ _) (λ k below other. ap (λ t. F.mul t (d k z)) (g-column K k other) ∙ sums.zero-mul laws (d k z))
+      sums.sum_below-single laws n (λ k. F.mul (g K k) (d k z)) Q Q_below (laws.mul_below _ _)
+      (λ k below other. ap (λ t. F.mul t (d k z)) (g-column K k other) ∙ sums.zero-mul laws (d k z))
       ∙ ap (λ t. F.mul t (d Q z)) g-at
 
   pub gd-other : (y z : ℕ) → y ≢ K → product_of F n g d y z ≡ 0
@@ -70,7 +71,8 @@ module _ {F : Arithmetic} (laws : IsField F) (n : ℕ) (d : Entries) (d_matrix :
 
   pub dg-column : (y : ℕ) → product_of F n d g y Q ≡ F.mul (d y K) (F.inv (d Q K))
   dg-column y =
-      sums.sum_below-single laws n (λ k. F.mul (d y k) (g k Q)) K K_below (laws.mul_below _ _) (λ k below other. ap (F.mul (d y k)) (g-row k Q other) ∙ sums.mul-zero laws (d y k))
+      sums.sum_below-single laws n (λ k. F.mul (d y k) (g k Q)) K K_below (laws.mul_below _ _)
+      (λ k below other. ap (F.mul (d y k)) (g-row k Q other) ∙ sums.mul-zero laws (d y k))
       ∙ ap (F.mul (d y K)) g-at
 
   pub dg-other : (y z : ℕ) → z ≢ Q → product_of F n d g y z ≡ 0
@@ -97,7 +99,8 @@ module _ {F : Arithmetic} (laws : IsField F) (n : ℕ) (d : Entries) (d_matrix :
         ∙ ap (λ t. F.add t (F.neg (product_of F n d g Q Q))) (identity-same n Q Q_below)
         ∙ ap (λ t. F.add 1 (F.neg t)) (dg-column Q ∙ one) ∙ laws.add_neg 1
     | inr other ↦
-        ap (λ t. F.add t (F.neg (product_of F n d g Q z))) (identity-other n Q z (λ e. other (sym e))) ∙ ap (λ t. F.add 0 (F.neg t)) (dg-other Q z other) ∙ laws.add_neg 0
+        ap (λ t. F.add t (F.neg (product_of F n d g Q z))) (identity-other n Q z (λ e. other (sym e))) ∙ ap (λ t. F.add 0 (F.neg t)) (dg-other Q z other)
+        ∙ laws.add_neg 0
   ]
 
   module _ (s : ℕ) (list : ℕ → ℕ) (listing : IsListing n (λ x. (x ≢ K) × (x ≢ Q)) s list) where
@@ -195,7 +198,8 @@ module _ {F : Arithmetic} (laws : IsField F) (n : ℕ) (d : Entries) (d_matrix :
       unfolding pair_phi pair_psi
       pair-phi_psi y z =
           ap (λ t. F.add (identity_of n y z) (F.neg t)) (others a b a-K b-Q y z)
-          ∙ compose.plus-minus laws (identity_of n) (product_of F n a b) (plus_of F (product_of F n d g) (product_of F n g d)) (λ row column. laws.add_below _ _) by_ab y z
+          ∙ compose.plus-minus laws (identity_of n) (product_of F n a b) (plus_of F (product_of F n d g) (product_of F n g d))
+          (λ row column. laws.add_below _ _) by_ab y z
 
       list_differs : (i j : ℕ) → i < s → i ≢ j → list i ≢ list j
       list_differs i j below other = elim (cases_lt j s) [
@@ -207,19 +211,23 @@ module _ {F : Arithmetic} (laws : IsField F) (n : ℕ) (d : Entries) (d_matrix :
       unfolding pair_psi pair_phi
       pair-psi_phi i j = elim (cases_lt i s) [
         | inr end ↦
-            sums.sum_below-zero laws n _ (λ k below. ap (λ t. F.mul t (a k (list j))) (b_matrix.rows_end (list i) k (let far : n ≤ list i = beyond i end in omega arith)) ∙ sums.zero-mul laws (a k (list j)))
+            sums.sum_below-zero laws n _ (λ k below. ap (λ t. F.mul t (a k (list j))) (b_matrix.rows_end (list i) k
+            (let far : n ≤ list i = beyond i end in omega arith)) ∙ sums.zero-mul laws (a k (list j)))
             ∙ sym (identity-end s i j end)
         | inl below ↦ elim (cases_lt j s) [
           | inr end ↦
-              sums.sum_below-zero laws n _ (λ k k_below. ap (F.mul (b (list i) k)) (a_matrix.columns_end k (list j) (let far : n ≤ list j = beyond j end in omega arith)) ∙ sums.mul-zero laws (b (list i) k))
+              sums.sum_below-zero laws n _ (λ k k_below. ap (F.mul (b (list i) k)) (a_matrix.columns_end k (list j)
+              (let far : n ≤ list j = beyond j end in omega arith)) ∙ sums.mul-zero laws (b (list i) k))
               ∙ sym (identity-other s i j (omega arith))
           | inl j_below ↦
               sym (ap (λ (e : Entries). e (list i) (list j)) by_ba
-              ∙ ap (λ t. F.add t (F.add (product_of F n g d (list i) (list j)) (product_of F n b a (list i) (list j)))) (dg-other (list i) (list j) (listing.holds j j_below).1)
+              ∙ ap (λ t. F.add t (F.add (product_of F n g d (list i) (list j)) (product_of F n b a (list i) (list j))))
+              (dg-other (list i) (list j) (listing.holds j j_below).1)
               ∙ ap (λ t. F.add 0 (F.add t (product_of F n b a (list i) (list j)))) (gd-other (list i) (list j) (listing.holds i below).0)
               ∙ laws.add_comm 0 _ ∙ laws.add_zero _ (laws.add_below _ _) ∙ laws.add_comm 0 _ ∙ laws.add_zero _ (sums.sum_below-below laws n _))
               ∙ elim (cases_eq i j) [
-                | inl same ↦ ap (λ (k : ℕ). identity_of n (list i) (list k)) (sym same) ∙ identity-same n (list i) (listing.within i below) ∙ sym (ap (identity_of s i) (sym same) ∙ identity-same s i below)
+                | inl same ↦ ap (λ (k : ℕ). identity_of n (list i) (list k)) (sym same) ∙ identity-same n (list i) (listing.within i below)
+                    ∙ sym (ap (identity_of s i) (sym same) ∙ identity-same s i below)
                 | inr other ↦ identity-other n (list i) (list j) (list_differs i j below other) ∙ sym (identity-other s i j other)
               ]
         ]
@@ -241,7 +249,8 @@ module _ {F : Arithmetic} (laws : IsField F) (n : ℕ) (d : Entries) (d_matrix :
       list_identity i j = elim (cases_lt i s) [
         | inr end ↦ identity-end n (list i) (list j) (let far : n ≤ list i = beyond i end in omega arith) ∙ sym (identity-end s i j end)
         | inl below ↦ elim (cases_eq i j) [
-          | inl same ↦ ap (λ (k : ℕ). identity_of n (list i) (list k)) (sym same) ∙ identity-same n (list i) (listing.within i below) ∙ sym (ap (identity_of s i) (sym same) ∙ identity-same s i below)
+          | inl same ↦ ap (λ (k : ℕ). identity_of n (list i) (list k)) (sym same) ∙ identity-same n (list i) (listing.within i below)
+              ∙ sym (ap (identity_of s i) (sym same) ∙ identity-same s i below)
           | inr other ↦ identity-other n (list i) (list j) (list_differs i j below other) ∙ sym (identity-other s i j other)
         ]
       ]
@@ -270,25 +279,31 @@ module _ {F : Arithmetic} (laws : IsField F) (n : ℕ) (d : Entries) (d_matrix :
           → product_of F n v pair_phi y j ≡ F.add (v y (list j)) (F.neg (F.mul (v y K) (F.mul (F.inv (d Q K)) (d Q (list j)))))
       unfolding pair_phi a
       through_phi m v v_matrix y j =
-          sym (compose.plus-minus laws v (product_of F n v (product_of F n g d)) (product_of F n v (A laws n d g d_matrix g_matrix dd gg)) (λ row column. sums.sum_below-below laws n _) split y (list j))
+          sym (compose.plus-minus laws v (product_of F n v (product_of F n g d)) (product_of F n v (A laws n d g d_matrix g_matrix dd gg))
+          (λ row column. sums.sum_below-below laws n _) split y (list j))
           ∙ ap (λ t. F.add (v y (list j)) (F.neg t))
-          (sums.sum_below-single laws n (λ x. F.mul (v y x) (product_of F n g d x (list j))) K K_below (laws.mul_below _ _) (λ x below other. ap (F.mul (v y x)) (gd-other x (list j) other) ∙ sums.mul-zero laws (v y x))
+          (sums.sum_below-single laws n (λ x. F.mul (v y x) (product_of F n g d x (list j))) K K_below (laws.mul_below _ _)
+          (λ x below other. ap (F.mul (v y x)) (gd-other x (list j) other) ∙ sums.mul-zero laws (v y x))
           ∙ ap (F.mul (v y K)) (gd-row (list j)))
         where
           split : v ≡ plus_of F (product_of F n v (product_of F n g d)) (product_of F n v (A laws n d g d_matrix g_matrix dd gg))
-          split = sym (matrices.product-identity laws m n v v_matrix) ∙ ap (product_of F n v) (by_A laws n d g d_matrix g_matrix dd gg) ∙ matrices.product-plus laws n v (product_of F n g d) (A laws n d g d_matrix g_matrix dd gg)
+          split = sym (matrices.product-identity laws m n v v_matrix) ∙ ap (product_of F n v) (by_A laws n d g d_matrix g_matrix dd gg)
+              ∙ matrices.product-plus laws n v (product_of F n g d) (A laws n d g d_matrix g_matrix dd gg)
 
       pub through_psi : (m : ℕ) (w : Entries) → IsMatrix F n m w → (i x : ℕ)
           → product_of F n pair_psi w i x ≡ F.add (w (list i) x) (F.neg (F.mul (F.mul (d (list i) K) (F.inv (d Q K))) (w Q x)))
       unfolding pair_psi b
       through_psi m w w_matrix i x =
-          sym (compose.plus-minus laws w (product_of F n (product_of F n d g) w) (product_of F n (B laws n d g d_matrix g_matrix dd gg) w) (λ row column. sums.sum_below-below laws n _) split (list i) x)
+          sym (compose.plus-minus laws w (product_of F n (product_of F n d g) w) (product_of F n (B laws n d g d_matrix g_matrix dd gg) w)
+          (λ row column. sums.sum_below-below laws n _) split (list i) x)
           ∙ ap (λ t. F.add (w (list i) x) (F.neg t))
-          (sums.sum_below-single laws n (λ z. F.mul (product_of F n d g (list i) z) (w z x)) Q Q_below (laws.mul_below _ _) (λ z below other. ap (λ t. F.mul t (w z x)) (dg-other (list i) z other) ∙ sums.zero-mul laws (w z x))
+          (sums.sum_below-single laws n (λ z. F.mul (product_of F n d g (list i) z) (w z x)) Q Q_below (laws.mul_below _ _)
+          (λ z below other. ap (λ t. F.mul t (w z x)) (dg-other (list i) z other) ∙ sums.zero-mul laws (w z x))
           ∙ ap (λ t. F.mul t (w Q x)) (dg-column (list i)))
         where
           split : w ≡ plus_of F (product_of F n (product_of F n d g) w) (product_of F n (B laws n d g d_matrix g_matrix dd gg) w)
-          split = sym (matrices.identity-product laws n m w w_matrix) ∙ ap (λ t. product_of F n t w) (by_B laws n d g d_matrix g_matrix dd gg) ∙ matrices.plus-product laws n (product_of F n d g) (B laws n d g d_matrix g_matrix dd gg) w
+          split = sym (matrices.identity-product laws n m w w_matrix) ∙ ap (λ t. product_of F n t w) (by_B laws n d g d_matrix g_matrix dd gg)
+              ∙ matrices.plus-product laws n (product_of F n d g) (B laws n d g d_matrix g_matrix dd gg) w
 
       pub pair_phi-matrix : IsMatrix F n s pair_phi
       unfolding pair_phi
@@ -307,10 +322,12 @@ module _ {F : Arithmetic} (laws : IsField F) (n : ℕ) (d : Entries) (d_matrix :
       }
 
       -- the smaller boundary as a formula, and where it has entries
-      pub small_boundary-entry : (i j : ℕ) → small_boundary i j ≡ F.add (d (list i) (list j)) (F.neg (F.mul (d (list i) K) (F.mul (F.inv (d Q K)) (d Q (list j)))))
+      pub small_boundary-entry : (i j : ℕ) → small_boundary i j ≡ F.add (d (list i) (list j))
+          (F.neg (F.mul (d (list i) K) (F.mul (F.inv (d Q K)) (d Q (list j)))))
       unfolding small_boundary da a
       small_boundary-entry i j =
-          sym (compose.plus-minus laws d (product_of F n d (product_of F n g d)) (product_of F n d (A laws n d g d_matrix g_matrix dd gg)) (λ row column. sums.sum_below-below laws n _)
+          sym (compose.plus-minus laws d (product_of F n d (product_of F n g d)) (product_of F n d (A laws n d g d_matrix g_matrix dd gg))
+          (λ row column. sums.sum_below-below laws n _)
           (right_A laws n d g d_matrix g_matrix dd gg d d_matrix) (list i) (list j))
           ∙ ap (λ t. F.add (d (list i) (list j)) (F.neg t))
           (sums.sum_below-single laws n (λ x. F.mul (d (list i) x) (product_of F n g d x (list j))) K K_below (laws.mul_below _ _)
@@ -322,7 +339,8 @@ module _ {F : Arithmetic} (laws : IsField F) (n : ℕ) (d : Entries) (d_matrix :
       small_boundary-rest i j =
           small_boundary-entry i j
           ∙ ap (λ t. F.add (d (list i) (list j)) (F.neg t))
-          (laws.mul_comm (d (list i) K) (F.mul (F.inv (d Q K)) (d Q (list j))) ∙ ap (λ t. F.mul t (d (list i) K)) (laws.mul_comm (F.inv (d Q K)) (d Q (list j))))
+          (laws.mul_comm (d (list i) K) (F.mul (F.inv (d Q K)) (d Q (list j))) ∙ ap (λ t. F.mul t (d (list i) K))
+          (laws.mul_comm (F.inv (d Q K)) (d Q (list j))))
 
       pub pair_phi-formula : (y j : ℕ) → pair_phi y j ≡ phi_entry F n d K Q y (list j)
       unfolding pair_phi a A
@@ -346,15 +364,18 @@ module _ {F : Arithmetic} (laws : IsField F) (n : ℕ) (d : Entries) (d_matrix :
       unfolding small_boundary da
       small_boundary-matrix = record {
         codes = λ i j. sums.sum_below-below laws n _;
-        rows_end = λ i j end. (matrices.product-is_matrix laws n n n d a d_matrix a_matrix).rows_end (list i) (list j) (let far : n ≤ list i = beyond i end in omega arith);
-        columns_end = λ i j end. (matrices.product-is_matrix laws n n n d a d_matrix a_matrix).columns_end (list i) (list j) (let far : n ≤ list j = beyond j end in omega arith);
+        rows_end = λ i j end. (matrices.product-is_matrix laws n n n d a d_matrix a_matrix).rows_end (list i) (list j)
+            (let far : n ≤ list i = beyond i end in omega arith);
+        columns_end = λ i j end. (matrices.product-is_matrix laws n n n d a d_matrix a_matrix).columns_end (list i) (list j)
+            (let far : n ≤ list j = beyond j end in omega arith);
       }
 
       da-da : product_of F n da da ≡ zero_entries
       unfolding da
       da-da =
           ap (λ t. product_of F n t (product_of F n d a)) da-bd ∙ matrices.product-assoc laws n n b d (product_of F n d a)
-          ∙ ap (product_of F n b) (sym (matrices.product-assoc laws n n d d a) ∙ ap (λ t. product_of F n t a) dd ∙ matrices.zero-product laws n a) ∙ matrices.product-zero laws n b
+          ∙ ap (product_of F n b) (sym (matrices.product-assoc laws n n d d a) ∙ ap (λ t. product_of F n t a) dd ∙ matrices.zero-product laws n a)
+          ∙ matrices.product-zero laws n b
 
       pub small_boundary-squares : SameEntries (product_of F s small_boundary small_boundary) zero_entries
       unfolding small_boundary
@@ -370,17 +391,20 @@ module _ {F : Arithmetic} (laws : IsField F) (n : ℕ) (d : Entries) (d_matrix :
           | inl is_K ↦ inr (
             is_K,
             λ no_entry. some (none y (list j) other
-                (ap (λ (k : ℕ). product_of F n g d k (list j)) is_K ∙ gd-row (list j) ∙ ap (F.mul (F.inv (d Q K))) no_entry ∙ sums.mul-zero laws (F.inv (d Q K)))),
+                (ap (λ (k : ℕ). product_of F n g d k (list j)) is_K ∙ gd-row (list j) ∙ ap (F.mul (F.inv (d Q K))) no_entry
+                ∙ sums.mul-zero laws (F.inv (d Q K)))),
           )
         ]
       ] where
         none : (y z : ℕ) → y ≢ z → product_of F n g d y z ≡ 0 → F.add (identity_of n y z) (F.neg (product_of F n g d y z)) ≡ 0
-        none y z other empty = ap (λ t. F.add t (F.neg (product_of F n g d y z))) (identity-other n y z other) ∙ ap (λ t. F.add 0 (F.neg t)) empty ∙ laws.add_neg 0
+        none y z other empty = ap (λ t. F.add t (F.neg (product_of F n g d y z))) (identity-other n y z other) ∙ ap (λ t. F.add 0 (F.neg t)) empty
+            ∙ laws.add_neg 0
 
       pub small_boundary-where : (i j : ℕ) → small_boundary i j ≢ 0 → (d (list i) (list j) ≢ 0) ⊎ ((d (list i) K ≢ 0) × (d Q (list j) ≢ 0))
       unfolding small_boundary da pair_phi
       small_boundary-where i j some =
-          let found : (x : ℕ) × ((x < n) × (F.mul (d (list i) x) (a x (list j)) ≢ 0)) = sums.sum_below-not_zero laws n (λ x. F.mul (d (list i) x) (a x (list j))) some in
+          let found : (x : ℕ) × ((x < n) × (F.mul (d (list i) x) (a x (list j)) ≢ 0)) = sums.sum_below-not_zero laws n
+          (λ x. F.mul (d (list i) x) (a x (list j))) some in
           let left = sums.mul-not_zero_left laws (d (list i) found.0) (a found.0 (list j)) found.1.1 in
           elim (pair_phi-entry found.0 j (sums.mul-not_zero_right laws (d (list i) found.0) (a found.0 (list j)) found.1.1)) [
             | inl same ↦ inl (subst (λ (x : ℕ). d (list i) x ≢ 0) same left)
@@ -401,14 +425,17 @@ module _ {F : Arithmetic} (laws : IsField F) (n : ℕ) (d : Entries) (d_matrix :
         ]
       ] where
         none : (y z : ℕ) → y ≢ z → product_of F n d g y z ≡ 0 → F.add (identity_of n y z) (F.neg (product_of F n d g y z)) ≡ 0
-        none y z other empty = ap (λ t. F.add t (F.neg (product_of F n d g y z))) (identity-other n y z other) ∙ ap (λ t. F.add 0 (F.neg t)) empty ∙ laws.add_neg 0
+        none y z other empty = ap (λ t. F.add t (F.neg (product_of F n d g y z))) (identity-other n y z other) ∙ ap (λ t. F.add 0 (F.neg t)) empty
+            ∙ laws.add_neg 0
 
   pub through_g : (v w : Entries) (y x : ℕ) → product_of F n (product_of F n v g) w y x ≡ F.mul (F.mul (v y K) (F.inv (d Q K))) (w Q x)
   through_g v w y x =
       sums.sum_below-single laws n (λ z. F.mul (product_of F n v g y z) (w z x)) Q Q_below (laws.mul_below _ _) (λ z below other.
-      ap (λ t. F.mul t (w z x)) (sums.sum_below-zero laws n _ (λ k k_below. ap (F.mul (v y k)) (g-column k z other) ∙ sums.mul-zero laws (v y k))) ∙ sums.zero-mul laws (w z x))
+      ap (λ t. F.mul t (w z x)) (sums.sum_below-zero laws n _ (λ k k_below. ap (F.mul (v y k)) (g-column k z other) ∙ sums.mul-zero laws (v y k)))
+      ∙ sums.zero-mul laws (w z x))
       ∙ ap (λ t. F.mul t (w Q x))
-      (sums.sum_below-single laws n (λ k. F.mul (v y k) (g k Q)) K K_below (laws.mul_below _ _) (λ k below other. ap (F.mul (v y k)) (g-row k Q other) ∙ sums.mul-zero laws (v y k))
+      (sums.sum_below-single laws n (λ k. F.mul (v y k) (g k Q)) K K_below (laws.mul_below _ _)
+      (λ k below other. ap (F.mul (v y k)) (g-row k Q other) ∙ sums.mul-zero laws (v y k))
       ∙ ap (F.mul (v y K)) g-at)
 
   pub g-entry : (y x : ℕ) → g y x ≢ 0 → (y ≡ K) × (x ≡ Q)

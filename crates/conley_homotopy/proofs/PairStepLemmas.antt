@@ -36,7 +36,8 @@ module _ {F : Arithmetic} {below : ℕ → ℕ → Type 0} where
         (subst (λ (n : ℕ). SameEntries (product_of F n S.boundary S.boundary) zero_entries) same.count complex.squares);
     one_down = λ h g some.
         let some' : S.boundary h g ≢ 0 = subst (λ (d : Entries). d h g ≢ 0) (sym same.boundary) some in
-        sym (same.dim g (column_within complex.matrix h g some')) ∙ complex.one_down h g some' ∙ ap (λ (t : ℕ). t + 1) (same.dim h (row_within complex.matrix h g some'));
+        sym (same.dim g (column_within complex.matrix h g some')) ∙ complex.one_down h g some'
+        ∙ ap (λ (t : ℕ). t + 1) (same.dim h (row_within complex.matrix h g some'));
     down = λ h g some.
         let some' : S.boundary h g ≢ 0 = subst (λ (d : Entries). d h g ≢ 0) (sym same.boundary) some in
         subst (λ (x : ℕ). below x (T.base g)) (same.base h (row_within complex.matrix h g some'))
@@ -73,8 +74,10 @@ module _ {F : Arithmetic} {below : ℕ → ℕ → Type 0} where
         (subst (λ (n : ℕ). SameEntries (product_of F n S.boundary m.psi) (product_of F L.count m.psi L.boundary)) same.count eq.psi_commutes);
     phi_psi = subst (λ (n : ℕ). SameEntries (minus_of F (identity_of L.count) (product_of F n m.phi m.psi))
         (plus_of F (product_of F L.count L.boundary m.gamma) (product_of F L.count m.gamma L.boundary))) same.count eq.phi_psi;
-    psi_phi = subst (λ (d : Entries). SameEntries (minus_of F (product_of F L.count m.psi m.phi) (identity_of T.count)) (plus_of F (product_of F T.count d m.gamma2) (product_of F T.count m.gamma2 d))) same.boundary
-        (subst (λ (n : ℕ). SameEntries (minus_of F (product_of F L.count m.psi m.phi) (identity_of n)) (plus_of F (product_of F n S.boundary m.gamma2) (product_of F n m.gamma2 S.boundary))) same.count eq.psi_phi);
+    psi_phi = subst (λ (d : Entries). SameEntries (minus_of F (product_of F L.count m.psi m.phi) (identity_of T.count))
+        (plus_of F (product_of F T.count d m.gamma2) (product_of F T.count m.gamma2 d))) same.boundary
+        (subst (λ (n : ℕ). SameEntries (minus_of F (product_of F L.count m.psi m.phi) (identity_of n))
+        (plus_of F (product_of F n S.boundary m.gamma2) (product_of F n m.gamma2 S.boundary))) same.count eq.psi_phi);
   }
 
 -- maps are one where their entries are
@@ -107,23 +110,33 @@ module _ {F : Arithmetic} (laws : IsField F) {below : ℕ → ℕ → Type 0} (o
   unfolding T
   same = record {
     count = pairs.without_pair-count laws order L complex K Q K_below Q_below differ unit K_under S.count (other K Q) listing beyond;
-    base = λ i within. pairs.without_pair-base laws order L complex K Q K_below Q_below differ unit K_under S.count (other K Q) listing beyond i ∙ sym (step.base i (subst (λ (n : ℕ). i < n) (pairs.without_pair-count laws order L complex K Q K_below Q_below differ unit K_under S.count (other K Q) listing beyond) within));
-    dim = λ i within. pairs.without_pair-dim laws order L complex K Q K_below Q_below differ unit K_under S.count (other K Q) listing beyond i ∙ sym (step.dim i (subst (λ (n : ℕ). i < n) (pairs.without_pair-count laws order L complex K Q K_below Q_below differ unit K_under S.count (other K Q) listing beyond) within));
+    base = λ i within. pairs.without_pair-base laws order L complex K Q K_below Q_below differ unit K_under S.count (other K Q) listing beyond i
+        ∙ sym (step.base i (subst (λ (n : ℕ). i < n) (pairs.without_pair-count laws order L complex K Q K_below Q_below differ unit K_under S.count (other K Q)
+        listing beyond) within));
+    dim = λ i within. pairs.without_pair-dim laws order L complex K Q K_below Q_below differ unit K_under S.count (other K Q) listing beyond i
+        ∙ sym (step.dim i (subst (λ (n : ℕ). i < n) (pairs.without_pair-count laws order L complex K Q K_below Q_below differ unit K_under S.count (other K Q)
+        listing beyond) within));
     boundary = entries_path T.boundary S.boundary (λ i j.
-        pairs.without_pair-boundary laws order L complex K Q K_below Q_below differ unit K_under S.count (other K Q) listing beyond i j ∙ sym (step.boundary i j));
+        pairs.without_pair-boundary laws order L complex K Q K_below Q_below differ unit K_under S.count (other K Q) listing beyond i j
+        ∙ sym (step.boundary i j));
   }
 
   are : maps ≡ m
   unfolding maps
   are = maps_path maps m
-      (entries_path maps.phi m.phi (λ y j. pairs.pair_maps-phi laws order L complex K Q K_below Q_below differ unit K_under S.count (other K Q) listing beyond y j ∙ sym (step.phi y j)))
-      (entries_path maps.psi m.psi (λ i y. pairs.pair_maps-psi laws order L complex K Q K_below Q_below differ unit K_under S.count (other K Q) listing beyond i y ∙ sym (step.psi i y)))
-      (entries_path maps.gamma m.gamma (λ y x. pairs.pair_maps-gamma laws order L complex K Q K_below Q_below differ unit K_under S.count (other K Q) listing beyond y x ∙ sym (step.gamma y x)))
-      (entries_path maps.gamma2 m.gamma2 (λ y x. pairs.pair_maps-gamma2 laws order L complex K Q K_below Q_below differ unit K_under S.count (other K Q) listing beyond y x ∙ sym (step.gamma2 y x)))
+      (entries_path maps.phi m.phi (λ y j. pairs.pair_maps-phi laws order L complex K Q K_below Q_below differ unit K_under S.count (other K Q) listing beyond
+      y j ∙ sym (step.phi y j)))
+      (entries_path maps.psi m.psi (λ i y. pairs.pair_maps-psi laws order L complex K Q K_below Q_below differ unit K_under S.count (other K Q) listing beyond
+      i y ∙ sym (step.psi i y)))
+      (entries_path maps.gamma m.gamma (λ y x. pairs.pair_maps-gamma laws order L complex K Q K_below Q_below differ unit K_under S.count (other K Q) listing
+      beyond y x ∙ sym (step.gamma y x)))
+      (entries_path maps.gamma2 m.gamma2 (λ y x. pairs.pair_maps-gamma2 laws order L complex K Q K_below Q_below differ unit K_under S.count (other K Q)
+      listing beyond y x ∙ sym (step.gamma2 y x)))
 
   pub step-IsGradedComplex : IsGradedComplex F below S
   unfolding T
-  step-IsGradedComplex = complex-same T S same (pairs.without_pair-IsGradedComplex laws order L complex K Q K_below Q_below differ unit K_under S.count (other K Q) listing beyond)
+  step-IsGradedComplex = complex-same T S same (pairs.without_pair-IsGradedComplex laws order L complex K Q K_below Q_below differ unit K_under S.count
+      (other K Q) listing beyond)
 
   pub step-IsGradedEquivalence : IsGradedEquivalence F below L S m
   unfolding T maps
@@ -163,11 +176,13 @@ module _ {F : Arithmetic} (laws : IsField F) {below : ℕ → ℕ → Type 0} (o
       are_kept = record { ascending = λ i j less within. (others K Q differ).rising i j less; within = listing.within; base = step.base; dim = step.dim };
       phi_row = λ i within j.
           step.phi (other K Q i) j
-          ∙ ap (λ b. F.add (identity_of L.count (other K Q i) (other K Q j)) (F.neg (cond b (F.mul (L.boundary Q (other K Q j)) (F.inv (L.boundary Q K))) 0))) (ne_eqb (other K Q i) K ((others K Q differ).not_K i))
+          ∙ ap (λ b. F.add (identity_of L.count (other K Q i) (other K Q j)) (F.neg (cond b (F.mul (L.boundary Q (other K Q j)) (F.inv (L.boundary Q K))) 0)))
+          (ne_eqb (other K Q i) K ((others K Q differ).not_K i))
           ∙ no_term _ (compose.identity-codes laws L.count _ _) ∙ identity-other_same i j within;
       psi_column = λ i j within.
           step.psi i (other K Q j)
-          ∙ ap (λ b. F.add (identity_of L.count (other K Q i) (other K Q j)) (F.neg (cond b (F.mul (F.inv (L.boundary Q K)) (L.boundary (other K Q i) K)) 0))) (ne_eqb (other K Q j) Q ((others K Q differ).not_Q j))
+          ∙ ap (λ b. F.add (identity_of L.count (other K Q i) (other K Q j)) (F.neg (cond b (F.mul (F.inv (L.boundary Q K)) (L.boundary (other K Q i) K)) 0)))
+          (ne_eqb (other K Q j) Q ((others K Q differ).not_Q j))
           ∙ no_term _ (compose.identity-codes laws L.count _ _) ∙ turn i j within;
     };
     others = listing.holds;
@@ -175,10 +190,12 @@ module _ {F : Arithmetic} (laws : IsField F) {below : ℕ → ℕ → Type 0} (o
     entry = λ i j i_within j_within.
         step.boundary i j
         ∙ ap (λ t. F.add (L.boundary (other K Q i) (other K Q j)) (F.neg t))
-        (laws.mul_comm (F.mul (L.boundary Q (other K Q j)) (F.inv (L.boundary Q K))) (L.boundary (other K Q i) K) ∙ ap (F.mul (L.boundary (other K Q i) K)) (laws.mul_comm (L.boundary Q (other K Q j)) (F.inv (L.boundary Q K))));
+        (laws.mul_comm (F.mul (L.boundary Q (other K Q j)) (F.inv (L.boundary Q K))) (L.boundary (other K Q i) K)
+        ∙ ap (F.mul (L.boundary (other K Q i) K)) (laws.mul_comm (L.boundary Q (other K Q j)) (F.inv (L.boundary Q K))));
     psi_upper = λ i.
         step.psi i K
-        ∙ ap (λ b. F.add (identity_of L.count (other K Q i) K) (F.neg (cond b (F.mul (F.inv (L.boundary Q K)) (L.boundary (other K Q i) K)) 0))) (ne_eqb K Q differ)
+        ∙ ap (λ b. F.add (identity_of L.count (other K Q i) K) (F.neg (cond b (F.mul (F.inv (L.boundary Q K)) (L.boundary (other K Q i) K)) 0)))
+        (ne_eqb K Q differ)
         ∙ ap (λ t. F.add t (F.neg 0)) (identity-other L.count (other K Q i) K ((others K Q differ).not_K i)) ∙ laws.add_neg 0;
   } where
     turn : (i j : ℕ) → j < S.count → identity_of L.count (other K Q i) (other K Q j) ≡ identity_of S.count i j

@@ -24,8 +24,10 @@ module _ {F : Arithmetic} (laws : IsField F) (n : ℕ) where
   minus-is_matrix : (a b : Entries) → IsMatrix F n n a → IsMatrix F n n b → IsMatrix F n n (minus_of F a b)
   minus-is_matrix a b left right = record {
     codes = λ row column. laws.add_below (a row column) (F.neg (b row column));
-    rows_end = λ row column end. ap (λ t. F.add t (F.neg (b row column))) (left.rows_end row column end) ∙ ap (λ t. F.add 0 (F.neg t)) (right.rows_end row column end) ∙ laws.add_neg 0;
-    columns_end = λ row column end. ap (λ t. F.add t (F.neg (b row column))) (left.columns_end row column end) ∙ ap (λ t. F.add 0 (F.neg t)) (right.columns_end row column end) ∙ laws.add_neg 0;
+    rows_end = λ row column end. ap (λ t. F.add t (F.neg (b row column))) (left.rows_end row column end)
+        ∙ ap (λ t. F.add 0 (F.neg t)) (right.rows_end row column end) ∙ laws.add_neg 0;
+    columns_end = λ row column end. ap (λ t. F.add t (F.neg (b row column))) (left.columns_end row column end)
+        ∙ ap (λ t. F.add 0 (F.neg t)) (right.columns_end row column end) ∙ laws.add_neg 0;
   }
 
   pub identity-is_matrix : IsMatrix F n n (identity_of n)
@@ -57,11 +59,13 @@ module _ {F : Arithmetic} (laws : IsField F) (n : ℕ) where
 
     pub by_A : identity_of n ≡ plus_of F (product_of F n g d) A
     unfolding A
-    by_A = compose.minus-plus laws (identity_of n) (product_of F n g d) (minus_of F (identity_of n) (product_of F n g d)) (compose.identity-codes laws n) (λ row column. laws.add_below _ _) (λ row column. refl)
+    by_A = compose.minus-plus laws (identity_of n) (product_of F n g d) (minus_of F (identity_of n) (product_of F n g d)) (compose.identity-codes laws n)
+        (λ row column. laws.add_below _ _) (λ row column. refl)
 
     pub by_B : identity_of n ≡ plus_of F (product_of F n d g) B
     unfolding B
-    by_B = compose.minus-plus laws (identity_of n) (product_of F n d g) (minus_of F (identity_of n) (product_of F n d g)) (compose.identity-codes laws n) (λ row column. laws.add_below _ _) (λ row column. refl)
+    by_B = compose.minus-plus laws (identity_of n) (product_of F n d g) (minus_of F (identity_of n) (product_of F n d g)) (compose.identity-codes laws n)
+        (λ row column. laws.add_below _ _) (λ row column. refl)
 
     -- a matrix as two parts, on either side
     left_A : (m : Entries) → IsMatrix F n n m → m ≡ plus_of F (product_of F n (product_of F n g d) m) (product_of F n A m)
@@ -85,22 +89,27 @@ module _ {F : Arithmetic} (laws : IsField F) (n : ℕ) where
     -- d A = A d A and so on
     gd-d : (m : Entries) → product_of F n (product_of F n g d) (product_of F n d m) ≡ zero_entries
     gd-d m =
-        matrices.product-assoc laws n n g d (product_of F n d m) ∙ ap (product_of F n g) (sym (matrices.product-assoc laws n n d d m) ∙ ap (λ t. product_of F n t m) dd ∙ matrices.zero-product laws n m)
+        matrices.product-assoc laws n n g d (product_of F n d m) ∙ ap (product_of F n g) (sym (matrices.product-assoc laws n n d d m)
+        ∙ ap (λ t. product_of F n t m) dd ∙ matrices.zero-product laws n m)
         ∙ matrices.product-zero laws n g
 
     d-dg : (m : Entries) → product_of F n (product_of F n m d) (product_of F n d g) ≡ zero_entries
     d-dg m =
-        matrices.product-assoc laws n n m d (product_of F n d g) ∙ ap (product_of F n m) (sym (matrices.product-assoc laws n n d d g) ∙ ap (λ t. product_of F n t g) dd ∙ matrices.zero-product laws n g)
+        matrices.product-assoc laws n n m d (product_of F n d g) ∙ ap (product_of F n m) (sym (matrices.product-assoc laws n n d d g)
+        ∙ ap (λ t. product_of F n t g) dd ∙ matrices.zero-product laws n g)
         ∙ matrices.product-zero laws n m
 
     pub A-dA : product_of F n A (product_of F n d A) ≡ product_of F n d A
-    A-dA = sym (drop_zero (product_of F n d A) _ A (product_of F n d A) (left_A (product_of F n d A) (matrices.product-is_matrix laws n n n d A d_matrix A_matrix)) (gd-d A))
+    A-dA = sym (drop_zero (product_of F n d A) _ A (product_of F n d A) (left_A (product_of F n d A)
+        (matrices.product-is_matrix laws n n n d A d_matrix A_matrix)) (gd-d A))
 
     pub A-dg : product_of F n A (product_of F n d g) ≡ product_of F n d g
-    A-dg = sym (drop_zero (product_of F n d g) _ A (product_of F n d g) (left_A (product_of F n d g) (matrices.product-is_matrix laws n n n d g d_matrix g_matrix)) (gd-d g))
+    A-dg = sym (drop_zero (product_of F n d g) _ A (product_of F n d g) (left_A (product_of F n d g)
+        (matrices.product-is_matrix laws n n n d g d_matrix g_matrix)) (gd-d g))
 
     pub Bd-B : product_of F n (product_of F n B d) B ≡ product_of F n B d
-    Bd-B = sym (drop_zero (product_of F n B d) _ (product_of F n B d) B (right_B (product_of F n B d) (matrices.product-is_matrix laws n n n B d B_matrix d_matrix)) (d-dg B))
+    Bd-B = sym (drop_zero (product_of F n B d) _ (product_of F n B d) B (right_B (product_of F n B d)
+        (matrices.product-is_matrix laws n n n B d B_matrix d_matrix)) (d-dg B))
 
     pub B-g : product_of F n B g ≡ g
     B-g = sym (drop_zero g _ B g (left_B g g_matrix) (matrices.product-assoc laws n n d g g ∙ ap (product_of F n d) gg ∙ matrices.product-zero laws n d))
@@ -110,7 +119,8 @@ module _ {F : Arithmetic} (laws : IsField F) (n : ℕ) where
     by_AB = by_A ∙ ap (plus_of F (product_of F n g d)) (right_B A A_matrix ∙ ap (λ t. plus_of F t (product_of F n A B)) A-dg)
 
     pub by_BA : identity_of n ≡ plus_of F (product_of F n d g) (plus_of F (product_of F n g d) (product_of F n B A))
-    by_BA = by_B ∙ ap (plus_of F (product_of F n d g)) (right_A B B_matrix ∙ ap (λ t. plus_of F t (product_of F n B A)) (sym (matrices.product-assoc laws n n B g d) ∙ ap (λ t. product_of F n t d) B-g))
+    by_BA = by_B ∙ ap (plus_of F (product_of F n d g)) (right_A B B_matrix ∙ ap (λ t. plus_of F t (product_of F n B A))
+        (sym (matrices.product-assoc laws n n B g d) ∙ ap (λ t. product_of F n t d) B-g))
 
     -- d A and B d are one
     pub dA-Bd : product_of F n d A ≡ product_of F n B d

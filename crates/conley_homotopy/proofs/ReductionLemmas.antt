@@ -68,8 +68,10 @@ module _ {F : Arithmetic} (laws : IsField F) {below : ℕ → ℕ → Type 0} (o
     psi_down = level;
     gamma_down = λ row column some. absurd (some refl);
     gamma2_down = λ row column some. absurd (some refl);
-    phi_commutes = λ i j. ap (λ (e : Entries). e i j) (matrices.product-identity laws n n d complex.matrix ∙ sym (matrices.identity-product laws n n d complex.matrix));
-    psi_commutes = λ i j. ap (λ (e : Entries). e i j) (matrices.product-identity laws n n d complex.matrix ∙ sym (matrices.identity-product laws n n d complex.matrix));
+    phi_commutes = λ i j. ap (λ (e : Entries). e i j) (matrices.product-identity laws n n d complex.matrix
+        ∙ sym (matrices.identity-product laws n n d complex.matrix));
+    psi_commutes = λ i j. ap (λ (e : Entries). e i j) (matrices.product-identity laws n n d complex.matrix
+        ∙ sym (matrices.identity-product laws n n d complex.matrix));
     phi_psi = λ i j. ap (λ (e : Entries). F.add (identity_of n i j) (F.neg (e i j))) square ∙ laws.add_neg (identity_of n i j) ∙ sym (nothing i j);
     psi_phi = λ i j. ap (λ (e : Entries). F.add (e i j) (F.neg (identity_of n i j))) square ∙ laws.add_neg (identity_of n i j) ∙ sym (nothing i j);
   } where
@@ -96,7 +98,8 @@ module _ {F : Arithmetic} (laws : IsField F) {below : ℕ → ℕ → Type 0} (o
   pub identity-IsReduction : (C : Generators) → IsGradedComplex F below C → IsReduction F below C C (λ i. i) (identity_maps C.count)
   identity-IsReduction C complex = record {
     equivalence = identity-IsGradedEquivalence C complex;
-    strong = λ i j. ap (λ (e : Entries). e i j) (matrices.identity-product laws C.count C.count (identity_of C.count) (projectors.identity-is_matrix laws C.count));
+    strong = λ i j. ap (λ (e : Entries). e i j) (matrices.identity-product laws C.count C.count (identity_of C.count)
+        (projectors.identity-is_matrix laws C.count));
     no_gamma2 = λ i j. refl;
     are_kept = record { ascending = λ i j before within. before; within = λ i within. within; base = λ i within. refl; dim = λ i within. refl };
     phi_row = λ i within j. refl;
@@ -125,12 +128,15 @@ module _ {F : Arithmetic} (laws : IsField F) {below : ℕ → ℕ → Type 0} (o
           base = λ i within. refl;
           dim = λ i within. refl;
         };
-        phi_row = λ i within j. pair_maps_of.pair_phi-row laws L.count L.boundary complex.matrix squares K Q K_below Q_below differ unit s list listing beyond i j;
-        psi_column = λ i j within. pair_maps_of.pair_psi-column laws L.count L.boundary complex.matrix squares K Q K_below Q_below differ unit s list listing beyond i j;
+        phi_row = λ i within j. pair_maps_of.pair_phi-row laws L.count L.boundary complex.matrix squares K Q K_below Q_below differ unit s list listing beyond
+            i j;
+        psi_column = λ i j within. pair_maps_of.pair_psi-column laws L.count L.boundary complex.matrix squares K Q K_below Q_below differ unit s list listing
+            beyond i j;
       };
       others = listing.holds;
       all = λ y within not_K not_Q. listing.all y within (not_K, not_Q);
-      entry = λ i j i_below j_below. pair_maps_of.small_boundary-entry laws L.count L.boundary complex.matrix squares K Q K_below Q_below differ unit s list listing beyond i j;
+      entry = λ i j i_below j_below. pair_maps_of.small_boundary-entry laws L.count L.boundary complex.matrix squares K Q K_below Q_below differ unit s list
+          listing beyond i j;
       psi_upper = pair_maps_of.pair_psi-K laws L.count L.boundary complex.matrix squares K Q K_below Q_below differ unit s list listing beyond;
     } where
       squares : product_of F L.count L.boundary L.boundary ≡ zero_entries
@@ -141,14 +147,19 @@ module _ {F : Arithmetic} (laws : IsField F) {below : ℕ → ℕ → Type 0} (o
       squares : product_of F L.count L.boundary L.boundary ≡ zero_entries
       squares = pair.dd laws order L complex K Q K_below Q_below differ unit K_under s list listing beyond
 
-      pub phi_after : (y j : ℕ) → (composed F L.count m maps).phi y j ≡ F.add (m.phi y (list j)) (F.neg (F.mul (m.phi y K) (F.mul (F.inv (L.boundary Q K)) (L.boundary Q (list j)))))
+      pub phi_after : (y j : ℕ) → (composed F L.count m maps).phi y j ≡ F.add (m.phi y (list j))
+          (F.neg (F.mul (m.phi y K) (F.mul (F.inv (L.boundary Q K)) (L.boundary Q (list j)))))
       unfolding squares
-      phi_after y j = pair_maps_of.through_phi laws L.count L.boundary complex.matrix squares K Q K_below Q_below differ unit s list listing beyond A.count m.phi before.equivalence.phi_matrix y j
+      phi_after y j = pair_maps_of.through_phi laws L.count L.boundary complex.matrix squares K Q K_below Q_below differ unit s list listing beyond A.count
+          m.phi before.equivalence.phi_matrix y j
 
-      pub psi_after : (i x : ℕ) → (composed F L.count m maps).psi i x ≡ F.add (m.psi (list i) x) (F.neg (F.mul (F.mul (L.boundary (list i) K) (F.inv (L.boundary Q K))) (m.psi Q x)))
+      pub psi_after : (i x : ℕ) → (composed F L.count m maps).psi i x ≡ F.add (m.psi (list i) x)
+          (F.neg (F.mul (F.mul (L.boundary (list i) K) (F.inv (L.boundary Q K))) (m.psi Q x)))
       unfolding squares
-      psi_after i x = pair_maps_of.through_psi laws L.count L.boundary complex.matrix squares K Q K_below Q_below differ unit s list listing beyond A.count m.psi before.equivalence.psi_matrix i x
+      psi_after i x = pair_maps_of.through_psi laws L.count L.boundary complex.matrix squares K Q K_below Q_below differ unit s list listing beyond A.count
+          m.psi before.equivalence.psi_matrix i x
 
       pub gamma_after : (y x : ℕ) → (composed F L.count m maps).gamma y x ≡ F.add (m.gamma y x) (F.mul (F.mul (m.phi y K) (F.inv (L.boundary Q K))) (m.psi Q x))
       unfolding squares
-      gamma_after y x = ap (F.add (m.gamma y x)) (pair_maps_of.through_g laws L.count L.boundary complex.matrix squares K Q K_below Q_below differ unit m.phi m.psi y x)
+      gamma_after y x = ap (F.add (m.gamma y x)) (pair_maps_of.through_g laws L.count L.boundary complex.matrix squares K Q K_below Q_below differ unit m.phi
+          m.psi y x)

@@ -43,7 +43,8 @@ module _ {F : Arithmetic} {below : ℕ → ℕ → Type 0} (order : IsPreorder b
     gamma2_down = λ h g some.
         let at = eq.gamma2_down h g some in (
           at.0,
-          order.transitive _ _ _ (same h (row_within eq.gamma2_matrix h g some)).1 (order.transitive _ _ _ at.1 (same g (column_within eq.gamma2_matrix h g some)).0),
+          order.transitive _ _ _ (same h (row_within eq.gamma2_matrix h g some)).1 (order.transitive _ _ _ at.1
+              (same g (column_within eq.gamma2_matrix h g some)).0),
         );
     phi_commutes = eq.phi_commutes;
     psi_commutes = eq.psi_commutes;
@@ -78,6 +79,8 @@ module _ {F : Arithmetic} {below below' : ℕ → ℕ → Type 0} (wider : (a b 
   }
 
   -- strict, where the two agree on the bases
-  pub wider-IsStrict : (S : Generators) → IsGradedComplex F below S → ((i j : ℕ) → i < S.count → j < S.count → below' (S.base i) (S.base j) → below (S.base i) (S.base j))
+  pub wider-IsStrict : (S : Generators) → IsGradedComplex F below S → ((i j : ℕ) → i < S.count → j < S.count → below' (S.base i) (S.base j)
+      → below (S.base i) (S.base j))
       → IsStrict below S → IsStrict below' S
-  wider-IsStrict S complex agree strict h g some up = strict h g some (agree g h (column_within complex.matrix h g some) (row_within complex.matrix h g some) up)
+  wider-IsStrict S complex agree strict h g some up = strict h g some (agree g h (column_within complex.matrix h g some) (row_within complex.matrix h g some)
+      up)

@@ -47,7 +47,8 @@ module _ {F : Arithmetic} (laws : IsField F) {below : ℕ → ℕ → Type 0} (o
   ]
 
   -- a row at or above the class reads of a vector below it the part on the class alone
-  only_inside : (a : Entries) (row grade : ℕ) → below p grade → ((x : ℕ) → a row x ≢ 0 → below grade (L.base x)) → (v : Vector) → ((x : ℕ) → v x ≢ 0 → below (L.base x) p)
+  only_inside : (a : Entries) (row grade : ℕ) → below p grade → ((x : ℕ) → a row x ≢ 0 → below grade (L.base x)) → (v : Vector)
+      → ((x : ℕ) → v x ≢ 0 → below (L.base x) p)
       → image_of F L.count a v row ≡ image_of F L.count a (kept v) row
   only_inside a row grade above down v low = sums.sum_below-congr laws L.count _ _ (λ x x_below. elim (in_or_out x) [
     | inl h ↦ ap (F.mul (a row x)) (sym (kept-inside v x h))
@@ -121,9 +122,11 @@ module _ {F : Arithmetic} (laws : IsField F) {below : ℕ → ℕ → Type 0} (o
   scalar-cycle g h g_grade h_grade =
       sums.sum_below-congr laws L.count _ _ (λ x x_below. ap (F.mul (m.psi g x)) (kept-kept (λ x. m.phi x h) x))
       ∙ sym (psi_inside g g_grade (λ x. m.phi x h) (phi_low h h_grade))
-      ∙ sums.minus-plus laws (product_of F L.count m.psi m.phi g h) (identity_of S.count g h) _ (sums.sum_below-below laws L.count _) (laws.add_below _ _) (eq.psi_phi g h)
+      ∙ sums.minus-plus laws (product_of F L.count m.psi m.phi g h) (identity_of S.count g h) _ (sums.sum_below-below laws L.count _) (laws.add_below _ _)
+      (eq.psi_phi g h)
       ∙ ap (F.add (identity_of S.count g h))
-      (ap (λ t. F.add t (product_of F S.count m.gamma2 S.boundary g h)) (sums.sum_below-zero laws S.count _ (λ l l_below. term_zero laws (S.boundary g l) (m.gamma2 l h) (λ some other.
+      (ap (λ t. F.add t (product_of F S.count m.gamma2 S.boundary g h)) (sums.sum_below-zero laws S.count _
+      (λ l l_below. term_zero laws (S.boundary g l) (m.gamma2 l h) (λ some other.
       strict g l some (order.transitive _ _ _ (eq.gamma2_down l h other).1 (order.transitive _ _ _ h_grade.0 g_grade.1)))))
       ∙ ap (F.add 0) (sums.sum_below-zero laws S.count _ (λ l l_below. term_zero laws (m.gamma2 g l) (S.boundary l h) (λ some other.
       strict l h other (order.transitive _ _ _ h_grade.0 (order.transitive _ _ _ g_grade.1 (eq.gamma2_down g l some).1)))))
@@ -131,12 +134,14 @@ module _ {F : Arithmetic} (laws : IsField F) {below : ℕ → ℕ → Type 0} (o
       ∙ laws.add_zero (identity_of S.count g h) (compose.identity-codes laws S.count g h)
 
   -- on the class a relative boundary is the boundary of a chain on the class
-  kept-boundary : (b : Vector) (is : IsRelativeBoundary F L.count L.boundary closure mouth b) (x : ℕ) → kept b x ≡ kept (image_of F L.count L.boundary (kept is.of)) x
+  kept-boundary : (b : Vector) (is : IsRelativeBoundary F L.count L.boundary closure mouth b) (x : ℕ)
+      → kept b x ≡ kept (image_of F L.count L.boundary (kept is.of)) x
   kept-boundary b is x = elim (in_or_out x) [
     | inl h ↦
         kept-inside b x h ∙ is.is x ∙ ap (F.add (image_of F L.count L.boundary is.of x)) (no_part h)
         ∙ laws.add_zero _ (sums.sum_below-below laws L.count _)
-        ∙ only_inside L.boundary x (L.base x) (around.inside_grade x h).1 (λ y some. L_complex.down x y some) is.of (λ y some. around.closure_below y (is.of_chain.only y some))
+        ∙ only_inside L.boundary x (L.base x) (around.inside_grade x h).1 (λ y some. L_complex.down x y some) is.of
+        (λ y some. around.closure_below y (is.of_chain.only y some))
         ∙ sym (kept-inside (image_of F L.count L.boundary (kept is.of)) x h)
     | inr h ↦ kept-outside b x h ∙ sym (kept-outside (image_of F L.count L.boundary (kept is.of)) x h)
   ] where
@@ -153,11 +158,13 @@ module _ {F : Arithmetic} (laws : IsField F) {below : ℕ → ℕ → Type 0} (o
       let k = image-not_zero laws L.count L.boundary w x some in
       order.transitive _ _ _ (L_complex.down x k.0 k.1.0) (around.inside_grade k.0 (kept-not_zero is.of k.0 k.1.1).0).0))
       ∙ image-image laws L.count L.count m.psi L.boundary w g
-      ∙ image-congr laws L.count (product_of F L.count m.psi L.boundary) (product_of F S.count S.boundary m.psi) w g (λ row column. sym (eq.psi_commutes row column))
+      ∙ image-congr laws L.count (product_of F L.count m.psi L.boundary) (product_of F S.count S.boundary m.psi) w g
+      (λ row column. sym (eq.psi_commutes row column))
       ∙ sym (image-image laws S.count L.count S.boundary m.psi w g)
       ∙ sums.sum_below-zero laws S.count _ (λ h h_below. term_zero laws (S.boundary g h) (image_of F L.count m.psi w h) (λ some other.
       let k = image-not_zero laws L.count m.psi w h other in
-      strict g h some (order.transitive _ _ _ (eq.psi_down h k.0 k.1.0).1 (order.transitive _ _ _ (around.inside_grade k.0 (kept-not_zero is.of k.0 k.1.1).0).0 grade.1))))
+      strict g h some (order.transitive _ _ _ (eq.psi_down h k.0 k.1.0).1 (order.transitive _ _ _ (around.inside_grade k.0 (kept-not_zero is.of k.0 k.1.1).0).0
+      grade.1))))
 
   -- a generator's cycle is no relative boundary
   pub cycle-not_boundary : (g : ℕ) → g < S.count → InGrade g → IsRelativeBoundary F L.count L.boundary closure mouth (cycle g) → ⊥
@@ -168,13 +175,15 @@ module _ {F : Arithmetic} (laws : IsField F) {below : ℕ → ℕ → Type 0} (o
   kept-add : (u v : Vector) (x : ℕ) → kept (λ x. F.add (u x) (v x)) x ≡ F.add (kept u x) (kept v x)
   kept-add u v x = elim (in_or_out x) [
     | inl h ↦ kept-inside (λ x. F.add (u x) (v x)) x h ∙ sym (ap (λ t. F.add t (kept v x)) (kept-inside u x h) ∙ ap (F.add (u x)) (kept-inside v x h))
-    | inr h ↦ kept-outside (λ x. F.add (u x) (v x)) x h ∙ sym (ap (λ t. F.add t (kept v x)) (kept-outside u x h) ∙ ap (F.add 0) (kept-outside v x h) ∙ sums.add_zero_zero laws)
+    | inr h ↦ kept-outside (λ x. F.add (u x) (v x)) x h ∙ sym (ap (λ t. F.add t (kept v x)) (kept-outside u x h) ∙ ap (F.add 0) (kept-outside v x h)
+        ∙ sums.add_zero_zero laws)
   ]
 
   kept-combination : (r : ℕ) (z : ℕ → Vector) (a : Vector) (x : ℕ) → kept (combination F r z a) x ≡ combination F r (λ i. kept (z i)) a x
   kept-combination r z a x = elim (in_or_out x) [
     | inl h ↦ kept-inside (combination F r z a) x h ∙ sums.sum_below-congr laws r _ _ (λ i below_i. ap (F.mul (a i)) (sym (kept-inside (z i) x h)))
-    | inr h ↦ kept-outside (combination F r z a) x h ∙ sym (sums.sum_below-zero laws r _ (λ i below_i. ap (F.mul (a i)) (kept-outside (z i) x h) ∙ sums.mul-zero laws (a i)))
+    | inr h ↦ kept-outside (combination F r z a) x h ∙ sym (sums.sum_below-zero laws r _ (λ i below_i. ap (F.mul (a i)) (kept-outside (z i) x h)
+        ∙ sums.mul-zero laws (a i)))
   ]
 
   kept-congr : (u v : Vector) → ((x : ℕ) → u x ≡ v x) → (x : ℕ) → kept u x ≡ kept v x
@@ -190,7 +199,8 @@ module _ {F : Arithmetic} (laws : IsField F) {below : ℕ → ℕ → Type 0} (o
       ∙ ap (λ t. F.add t (image_of F L.count m.psi (kept b) g)) (image-combination laws L.count r m.psi (λ i. kept (z i)) a g)
 
   -- a class whose relative cycles are all relative boundaries has no generator
-  pub no_generator : ((v : Vector) → IsRelativeCycle F L.count L.boundary closure mouth v → IsRelativeBoundary F L.count L.boundary closure mouth v) → (g : ℕ) → g < S.count → ¬ InGrade g
+  pub no_generator : ((v : Vector) → IsRelativeCycle F L.count L.boundary closure mouth v → IsRelativeBoundary F L.count L.boundary closure mouth v) → (g : ℕ)
+      → g < S.count → ¬ InGrade g
   no_generator all g within grade =
       let one : scalar (cycle g) g ≡ 1 = scalar-cycle g g grade grade ∙ matrices.identity-same S.count g within in
       let zero : scalar (cycle g) g ≡ 0 = scalar-boundary (cycle g) g grade (all (cycle g) (cycle-IsRelativeCycle g grade)) in
@@ -198,15 +208,18 @@ module _ {F : Arithmetic} (laws : IsField F) {below : ℕ → ℕ → Type 0} (o
 
   module _ (k r : ℕ) (list : ℕ → ℕ) (listing : IsListing S.count (λ g. (below (S.base g) p × below p (S.base g)) × (S.dim g ≡ k)) r list) where
     -- the scalars are those of the expression
-    determined : (v a : Vector) → IsExpressed F (IsRelativeBoundary F L.count L.boundary closure mouth) r (λ i. cycle (list i)) v a → (j : ℕ) → j < r → scalar v (list j) ≡ a j
+    determined : (v a : Vector) → IsExpressed F (IsRelativeBoundary F L.count L.boundary closure mouth) r (λ i. cycle (list i)) v a → (j : ℕ) → j < r
+        → scalar v (list j) ≡ a j
     determined v a e j below_j =
         let grade = (listing.holds j below_j).0 in
         scalar-expressed r (λ i. cycle (list i)) a v e.rest (list j) e.is
         ∙ ap (F.add (sum_below F r (λ i. F.mul (a i) (scalar (cycle (list i)) (list j))))) (scalar-boundary e.rest (list j) grade e.in_B)
         ∙ laws.add_zero _ (sums.sum_below-below laws r _)
-        ∙ sums.sum_below-congr laws r _ (λ i. F.mul (a i) (identity_of S.count (list j) (list i))) (λ i below_i. ap (F.mul (a i)) (scalar-cycle (list j) (list i) grade (listing.holds i below_i).0))
+        ∙ sums.sum_below-congr laws r _ (λ i. F.mul (a i) (identity_of S.count (list j) (list i)))
+        (λ i below_i. ap (F.mul (a i)) (scalar-cycle (list j) (list i) grade (listing.holds i below_i).0))
         ∙ sums.sum_below-single laws r (λ i. F.mul (a i) (identity_of S.count (list j) (list i))) j below_j (laws.mul_below _ _) (λ i below_i differs.
-        ap (F.mul (a i)) (identity-other S.count (list j) (list i) (λ same. differs (listing.distinct i j below_i below_j (sym same)))) ∙ sums.mul-zero laws (a i))
+        ap (F.mul (a i)) (identity-other S.count (list j) (list i) (λ same. differs (listing.distinct i j below_i below_j (sym same))))
+        ∙ sums.mul-zero laws (a i))
         ∙ ap (F.mul (a j)) (identity-same S.count (list j) (listing.within j below_j)) ∙ laws.mul_one (a j) (e.codes j)
 
     module _ (v : Vector) (c : IsRelativeCycle F L.count L.boundary closure mouth v) (in_dim : (x : ℕ) → v x ≢ 0 → L.dim x ≡ k) where
@@ -238,7 +251,8 @@ module _ {F : Arithmetic} (laws : IsField F) {below : ℕ → ℕ → Type 0} (o
           listing.all g g_below (
             (
               order.transitive _ _ _ g_x.1 (around.inside_grade x.0 x_kept.0).0,
-              order.transitive _ _ _ (around.inside_grade y h).1 (eq.phi_down y g (sums.mul-not_zero_left laws (m.phi y g) (image_of F L.count m.psi (kept v) g) some)).1,
+              order.transitive _ _ _ (around.inside_grade y h).1 (eq.phi_down y g (sums.mul-not_zero_left laws (m.phi y g)
+                  (image_of F L.count m.psi (kept v) g) some)).1,
             ),
             g_x.0 ∙ in_dim x.0 x_kept.1,
           ))
@@ -277,7 +291,8 @@ module _ {F : Arithmetic} (laws : IsField F) {below : ℕ → ℕ → Type 0} (o
       on_class y h =
           let H = plus_of F (product_of F L.count L.boundary m.gamma) (product_of F L.count m.gamma L.boundary) in
           let home : identity_of L.count ≡ plus_of F (product_of F S.count m.phi m.psi) H =
-          compose.minus-plus laws (identity_of L.count) (product_of F S.count m.phi m.psi) H (compose.identity-codes laws L.count) (λ row column. laws.add_below _ _) eq.phi_psi in
+          compose.minus-plus laws (identity_of L.count) (product_of F S.count m.phi m.psi) H (compose.identity-codes laws L.count)
+          (λ row column. laws.add_below _ _) eq.phi_psi in
           sym (through_identity y h) ∙ ap (λ (e : Entries). image_of F L.count e (kept v) y) home
           ∙ image-plus laws L.count (product_of F S.count m.phi m.psi) H (kept v) y
           ∙ ap (F.add (image_of F L.count (product_of F S.count m.phi m.psi) (kept v) y))
@@ -288,7 +303,8 @@ module _ {F : Arithmetic} (laws : IsField F) {below : ℕ → ℕ → Type 0} (o
 
       sum-outside : (x : ℕ) → inside x ≡ false → sum x ≡ 0
       unfolding sum cycle
-      sum-outside x h = sums.sum_below-zero laws r _ (λ i below_i. ap (F.mul (scalar v (list i))) (kept-outside (λ y. m.phi y (list i)) x h) ∙ sums.mul-zero laws (scalar v (list i)))
+      sum-outside x h = sums.sum_below-zero laws r _ (λ i below_i. ap (F.mul (scalar v (list i))) (kept-outside (λ y. m.phi y (list i)) x h)
+          ∙ sums.mul-zero laws (scalar v (list i)))
 
       sum-codes : (x : ℕ) → sum x < F.order
       unfolding sum

@@ -29,11 +29,13 @@ module _ {F : Arithmetic} (laws : IsField F) where
     | inr direct ↦ inl direct
     | inl none ↦ elim (cases_eq (d Q x) 0) [
       | inl empty ↦ absurd (some (ap (λ t. F.add t (F.neg (F.mul (F.mul (d Q x) (F.inv (d Q K))) (d y K)))) none
-          ∙ ap (λ t. F.add 0 (F.neg (F.mul (F.mul t (F.inv (d Q K))) (d y K)))) empty ∙ ap (λ t. F.add 0 (F.neg (F.mul t (d y K)))) (sums.zero-mul laws (F.inv (d Q K)))
+          ∙ ap (λ t. F.add 0 (F.neg (F.mul (F.mul t (F.inv (d Q K))) (d y K)))) empty ∙ ap (λ t. F.add 0 (F.neg (F.mul t (d y K))))
+          (sums.zero-mul laws (F.inv (d Q K)))
           ∙ ap (λ t. F.add 0 (F.neg t)) (sums.zero-mul laws (d y K)) ∙ laws.add_neg 0))
       | inr first ↦ elim (cases_eq (d y K) 0) [
         | inl empty ↦ absurd (some (ap (λ t. F.add t (F.neg (F.mul (F.mul (d Q x) (F.inv (d Q K))) (d y K)))) none
-            ∙ ap (λ t. F.add 0 (F.neg (F.mul (F.mul (d Q x) (F.inv (d Q K))) t))) empty ∙ ap (λ t. F.add 0 (F.neg t)) (sums.mul-zero laws (F.mul (d Q x) (F.inv (d Q K)))) ∙ laws.add_neg 0))
+            ∙ ap (λ t. F.add 0 (F.neg (F.mul (F.mul (d Q x) (F.inv (d Q K))) t))) empty ∙ ap (λ t. F.add 0 (F.neg t))
+            (sums.mul-zero laws (F.mul (d Q x) (F.inv (d Q K)))) ∙ laws.add_neg 0))
         | inr second ↦ inr (first, second)
       ]
     ]
@@ -43,7 +45,8 @@ module _ {F : Arithmetic} (laws : IsField F) where
       (K Q : ℕ) (K_below : K < L.count) (Q_below : Q < L.count) (unit : L.boundary Q K ≢ 0) (K_under : below (L.base K) (L.base Q))
       (S : Generators) (m : Maps) (step : ArePairFormulas F L K Q S m) where
     -- a column before K that is strict stays strict
-    pub column-stays_strict : (j i : ℕ) → ((y : ℕ) → L.boundary y (other K Q j) ≢ 0 → ¬ below (L.base (other K Q j)) (L.base y)) → S.boundary i j ≢ 0 → ¬ below (S.base j) (S.base i)
+    pub column-stays_strict : (j i : ℕ) → ((y : ℕ) → L.boundary y (other K Q j) ≢ 0 → ¬ below (L.base (other K Q j)) (L.base y)) → S.boundary i j ≢ 0
+        → ¬ below (S.base j) (S.base i)
     column-stays_strict j i clear some up =
         let x = other K Q j in
         let y = other K Q i in
@@ -65,10 +68,13 @@ module _ {F : Arithmetic} (laws : IsField F) where
     composed-phi r phi fits row j =
         let x = other k q j in
         let t = F.mul (d q x) (F.inv (d q k)) in
-        ap (λ (e : Entries). e row j) (matrices.product-plus laws s phi (λ y j. identity_of s y (other k q j)) (λ y j. F.neg (cond (y == k) (F.mul (d q (other k q j)) (F.inv (d q k))) 0)))
-        ∙ ap (λ (u : ℕ). F.add u (sum_below F s (λ z. F.mul (phi row z) (F.neg (cond (z == k) t 0))))) (ap (λ (e : Entries). e row x) (matrices.product-identity laws r s phi fits))
+        ap (λ (e : Entries). e row j) (matrices.product-plus laws s phi (λ y j. identity_of s y (other k q j))
+        (λ y j. F.neg (cond (y == k) (F.mul (d q (other k q j)) (F.inv (d q k))) 0)))
+        ∙ ap (λ (u : ℕ). F.add u (sum_below F s (λ z. F.mul (phi row z) (F.neg (cond (z == k) t 0)))))
+        (ap (λ (e : Entries). e row x) (matrices.product-identity laws r s phi fits))
         ∙ ap (F.add (phi row x)) (sums.sum_below-single laws s (λ z. F.mul (phi row z) (F.neg (cond (z == k) t 0))) k k_below (laws.mul_below _ _)
-        (λ z z_below apart. ap (λ b. F.mul (phi row z) (F.neg (cond b t 0))) (ne_eqb z k apart) ∙ ap (F.mul (phi row z)) (projectors.neg-zero laws s) ∙ sums.mul-zero laws (phi row z))
+        (λ z z_below apart. ap (λ b. F.mul (phi row z) (F.neg (cond b t 0))) (ne_eqb z k apart) ∙ ap (F.mul (phi row z)) (projectors.neg-zero laws s)
+        ∙ sums.mul-zero laws (phi row z))
         ∙ ap (λ b. F.mul (phi row k) (F.neg (cond b t 0))) (eq-eqb k k refl) ∙ sums.mul-neg laws (phi row k) t)
 
     -- row x of psi loses what the boundary of k has at x, times row q
@@ -78,10 +84,13 @@ module _ {F : Arithmetic} (laws : IsField F) where
     composed-psi c psi fits i column =
         let x = other k q i in
         let t = F.mul (F.inv (d q k)) (d x k) in
-        ap (λ (e : Entries). e i column) (matrices.plus-product laws s (λ i y. identity_of s (other k q i) y) (λ i y. F.neg (cond (y == q) (F.mul (F.inv (d q k)) (d (other k q i) k)) 0)) psi)
-        ∙ ap (λ (u : ℕ). F.add u (sum_below F s (λ z. F.mul (F.neg (cond (z == q) t 0)) (psi z column)))) (ap (λ (e : Entries). e x column) (matrices.identity-product laws s c psi fits))
+        ap (λ (e : Entries). e i column) (matrices.plus-product laws s (λ i y. identity_of s (other k q i) y)
+        (λ i y. F.neg (cond (y == q) (F.mul (F.inv (d q k)) (d (other k q i) k)) 0)) psi)
+        ∙ ap (λ (u : ℕ). F.add u (sum_below F s (λ z. F.mul (F.neg (cond (z == q) t 0)) (psi z column))))
+        (ap (λ (e : Entries). e x column) (matrices.identity-product laws s c psi fits))
         ∙ ap (F.add (psi x column)) (sums.sum_below-single laws s (λ z. F.mul (F.neg (cond (z == q) t 0)) (psi z column)) q q_below (laws.mul_below _ _)
-        (λ z z_below apart. ap (λ b. F.mul (F.neg (cond b t 0)) (psi z column)) (ne_eqb z q apart) ∙ ap (λ u. F.mul u (psi z column)) (projectors.neg-zero laws s) ∙ sums.zero-mul laws (psi z column))
+        (λ z z_below apart. ap (λ b. F.mul (F.neg (cond b t 0)) (psi z column)) (ne_eqb z q apart)
+        ∙ ap (λ u. F.mul u (psi z column)) (projectors.neg-zero laws s) ∙ sums.zero-mul laws (psi z column))
         ∙ ap (λ b. F.mul (F.neg (cond b t 0)) (psi q column)) (eq-eqb q q refl) ∙ sums.neg-mul laws t (psi q column))
 
     -- gamma gains column k of phi times row q of psi
@@ -89,10 +98,13 @@ module _ {F : Arithmetic} (laws : IsField F) where
         → plus_of F gamma (product_of F s (product_of F s phi (gamma_entry F d k q)) psi) row column
         ≡ F.add (gamma row column) (F.mul (F.mul (phi row k) (F.inv (d q k))) (psi q column))
     composed-gamma gamma phi psi row column =
-        ap (F.add (gamma row column)) (sums.sum_below-single laws s (λ z. F.mul (product_of F s phi (gamma_entry F d k q) row z) (psi z column)) q q_below (laws.mul_below _ _)
+        ap (F.add (gamma row column)) (sums.sum_below-single laws s (λ z. F.mul (product_of F s phi (gamma_entry F d k q) row z) (psi z column)) q q_below
+        (laws.mul_below _ _)
         (λ z z_below apart. ap (λ u. F.mul u (psi z column)) (sums.sum_below-zero laws s (λ l. F.mul (phi row l) (gamma_entry F d k q l z))
-        (λ l l_below. ap (F.mul (phi row l)) (ap (λ b. cond ((l == k) && b) (F.inv (d q k)) 0) (ne_eqb z q apart) ∙ ap (λ b. cond b (F.inv (d q k)) 0) (pair_maps_of.and_false (l == k))) ∙ sums.mul-zero laws (phi row l)))
+        (λ l l_below. ap (F.mul (phi row l)) (ap (λ b. cond ((l == k) && b) (F.inv (d q k)) 0) (ne_eqb z q apart)
+        ∙ ap (λ b. cond b (F.inv (d q k)) 0) (pair_maps_of.and_false (l == k))) ∙ sums.mul-zero laws (phi row l)))
         ∙ sums.zero-mul laws (psi z column))
         ∙ ap (λ u. F.mul u (psi q column)) (sums.sum_below-single laws s (λ l. F.mul (phi row l) (gamma_entry F d k q l q)) k k_below (laws.mul_below _ _)
         (λ l l_below apart. ap (λ b. F.mul (phi row l) (cond (b && (q == q)) (F.inv (d q k)) 0)) (ne_eqb l k apart) ∙ sums.mul-zero laws (phi row l))
-        ∙ ap (λ b. F.mul (phi row k) (cond (b && (q == q)) (F.inv (d q k)) 0)) (eq-eqb k k refl) ∙ ap (λ b. F.mul (phi row k) (cond b (F.inv (d q k)) 0)) (eq-eqb q q refl)))
+        ∙ ap (λ b. F.mul (phi row k) (cond (b && (q == q)) (F.inv (d q k)) 0)) (eq-eqb k k refl)
+        ∙ ap (λ b. F.mul (phi row k) (cond b (F.inv (d q k)) 0)) (eq-eqb q q refl)))

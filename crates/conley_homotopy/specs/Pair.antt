@@ -6,7 +6,7 @@
 --     ArePairFormulas F L K Q S m S and m are these, over the generators other than K and Q
 use Rattle.std.specs.Prelude.{◌≡◌, ℕ, ◌+◌, ◌<◌, ◌==◌, ◌&&◌, if◌then◌else◌}
 use Rattle.conley_field.specs.Arithmetic.{Arithmetic}
-use Rattle.conley_algebra.specs.Entries.{Entries, identity_of, zero_entries, SameEntries}
+use Rattle.conley_algebra.specs.Entries.{Entries, identity_of, SameEntries, IsZero}
 use Rattle.conley_homotopy.specs.Graded.{Generators}
 use Rattle.conley_homotopy.specs.Equivalence.{Maps}
 use Rattle.conley_algebra.specs.Others.{other}
@@ -31,4 +31,4 @@ pub record ArePairFormulas (F : Arithmetic) (L : Generators) (K Q : ℕ) (S : Ge
   pub phi : SameEntries m.phi (λ y j. phi_entry F L.count L.boundary K Q y (other K Q j))
   pub psi : SameEntries m.psi (λ i y. psi_entry F L.count L.boundary K Q (other K Q i) y)
   pub gamma : SameEntries m.gamma (gamma_entry F L.boundary K Q)
-  pub gamma2 : SameEntries m.gamma2 zero_entries
+  pub gamma2 : IsZero m.gamma2

@@ -5,7 +5,7 @@
 --     IsReducedTo F below L S m     S is a graded complex, and a reduction of L
 use Rattle.std.specs.Prelude.{◌≡◌, ◌≢◌, ℕ, ◌<◌}
 use Rattle.conley_field.specs.Arithmetic.{Arithmetic}
-use Rattle.conley_algebra.specs.Entries.{Entries, product_of, identity_of, zero_entries, SameEntries}
+use Rattle.conley_algebra.specs.Entries.{Entries, product_of, identity_of, zero_entries, SameEntries, IsZero}
 use Rattle.conley_homotopy.specs.Graded.{Generators, IsGradedComplex}
 use Rattle.conley_homotopy.specs.Equivalence.{Maps, IsGradedEquivalence}
 
@@ -20,7 +20,7 @@ pub record AreKept (L S : Generators) (kept : ℕ → ℕ) : Type 0 where
 pub record IsReduction (F : Arithmetic) (below : ℕ → ℕ → Type 0) (L S : Generators) (kept : ℕ → ℕ) (m : Maps) : Type 0 where
   pub equivalence : IsGradedEquivalence F below L S m
   pub strong : SameEntries (product_of F L.count m.psi m.phi) (identity_of S.count)
-  pub no_gamma2 : SameEntries m.gamma2 zero_entries
+  pub no_gamma2 : IsZero m.gamma2
   pub are_kept : AreKept L S kept
   -- the row of a kept generator in phi, and its column in psi, are 1 at its own place alone
   pub phi_row : (i : ℕ) → i < S.count → (j : ℕ) → m.phi (kept i) j ≡ identity_of S.count i j

@@ -6,8 +6,8 @@ use Rattle.std.proofs.lemmas.Bool.{cases_eq}
 use Rattle.std.proofs.lemmas.List.{length-set}
 use Rattle.std.proofs.lemmas.List.Sums.{sum_by-set}
 use Rattle.std.proofs.lemmas.List.Elements.{Contains-append_left, Contains-append_right, Contains-append_cases, Contains-push_cases}
-use Rattle.conley_walk.specs.Lists.{ListedStep, IsDigraph}
-use Rattle.conley_walk.proofs.ListLemmas.{Contains-none}
+use Rattle.conley_lists.specs.Lists.{ListedStep, IsDigraph}
+use Rattle.conley_lists.proofs.ListLemmas.{Contains-none}
 use Rattle.conley_faces.specs.Face.{IsFace, IsBelowItself}
 use Rattle.conley_faces.proofs.FaceLemmas.{face_cases, face_on}
 use Rattle.conley_digraph.specs.Turning.{IsTurnedRound}
@@ -20,7 +20,8 @@ use Rattle.conley_hull.proofs.JoinLemmas.{share-sym, share-trans}
 pub moved-none : (labels waiting : List ℕ) → LetsMovedWait labels labels waiting waiting
 moved-none labels waiting = record { kept = λ x c. c; cells = λ x c. inl c; moved = λ x z s. inl s }
 
-pub moved-on : (old mid new before during after : List ℕ) → length mid ≡ length old → LetsMovedWait old mid before during → LetsMovedWait mid new during after → LetsMovedWait old new before after
+pub moved-on : (old mid new before during after : List ℕ) → length mid ≡ length old → LetsMovedWait old mid before during → LetsMovedWait mid new during after
+    → LetsMovedWait old new before after
 moved-on old mid new before during after count a b = record {
   kept = λ x c. b.kept x (a.kept x c);
   cells = λ x c. elim (b.cells x c) [ inl d ↦ a.cells x d | inr lt ↦ inr (omega (arith, lt, count)) ];
@@ -34,7 +35,8 @@ moved-on old mid new before during after count a b = record {
 }
 
 -- the cells of a part that goes to another wait
-pub moved-absorb : (k q : ℕ) (old new : List ℕ) (cells : List (List ℕ)) (before after : List ℕ) → IsTable old cells → Absorbs k q old new → after ≡ before ++ get_or cells q [] → LetsMovedWait old new before after
+pub moved-absorb : (k q : ℕ) (old new : List ℕ) (cells : List (List ℕ)) (before after : List ℕ) → IsTable old cells → Absorbs k q old new
+    → after ≡ before ++ get_or cells q [] → LetsMovedWait old new before after
 moved-absorb k q old new cells before after table a is = rw is (record {
   kept = λ x c. Contains-append_left before (get_or cells q []) x c;
   cells = λ x c. elim (Contains-append_cases before (get_or cells q []) x c) [ inl b ↦ inl b | inr m ↦ inr ((table.same q x).0 m).0 ];
@@ -55,7 +57,8 @@ part_one-some [] x c = Contains-none x c
 part_one-some (y ∷ ys) x c = refl
 
 -- one part less weighs more than the cells that wait
-pub work-absorb : (k q u v : ℕ) (labels : List ℕ) (cells cells' : List (List ℕ)) (before after : List ℕ) → IsTable labels cells → q ≢ k → u < length labels → v < length labels → slice_index labels u ≡ k → slice_index labels v ≡ q →
+pub work-absorb : (k q u v : ℕ) (labels : List ℕ) (cells cells' : List (List ℕ)) (before after : List ℕ) → IsTable labels cells → q ≢ k → u < length labels
+    → v < length labels → slice_index labels u ≡ k → slice_index labels v ≡ q →
     cells' ≡ set (set cells q []) k (get_or cells k [] ++ get_or cells q []) → after ≡ before ++ get_or cells q [] → work cells' after ≤ work cells before
 work-absorb k q u v labels cells cells' before after table apart lu lv u_k v_q is_cells is_after =
     let kk = get_or cells k [] in
@@ -69,14 +72,25 @@ work-absorb k q u v labels cells cells' before after table apart lu lv u_k v_q i
     let in_k : Contains kk u = (table.same k u).1 (lu, u_k) in
     let none : part_one [] ≡ 0 = refl in
     let fewer : part_count cells ≡ suc (part_count new) =
-    omega (arith, one, two, at, none, part_one-some kk u in_k, part_one-some qq v ((table.same q v).1 (lv, v_q)), part_one-some (kk ++ qq) u (Contains-append_left kk qq u in_k)) in
+    omega (
+      arith,
+      one,
+      two,
+      at,
+      none,
+      part_one-some kk u in_k,
+      part_one-some qq v ((table.same q v).1 (lv, v_q)),
+      part_one-some (kk ++ qq) u (Contains-append_left kk qq u in_k),
+    ) in
     let count : length new ≡ length cells = length-set (set cells q []) k (kk ++ qq) ∙ length-set cells q [] in
-    let product : part_count cells * (length cells + 1) ≡ part_count new * (length cells + 1) + (length cells + 1) = ap (λ (p : ℕ). p * (length cells + 1)) fewer ∙ suc-mul (part_count new) (length cells + 1) in
+    let product : part_count cells * (length cells + 1) ≡ part_count new * (length cells + 1) + (length cells + 1) =
+    ap (λ (p : ℕ). p * (length cells + 1)) fewer ∙ suc-mul (part_count new) (length cells + 1) in
     let same : part_count new * (length new + 1) ≡ part_count new * (length cells + 1) = ap (λ (n : ℕ). part_count new * (n + 1)) count in
     rw (is_cells, is_after) (omega (arith, product, same, length-append before qq, list_within_entries cells q, table.entries, table.count))
 
 -- what is settled stays so
-pub settled-on : (old new before after : List ℕ) (x y z : ℕ) → Refines old new → LetsMovedWait old new before after → IsSettled old before x y z → IsSettled new after x y z
+pub settled-on : (old new before after : List ℕ) (x y z : ℕ) → Refines old new → LetsMovedWait old new before after → IsSettled old before x y z
+    → IsSettled new after x y z
 settled-on old new before after x y z coarser m settled s = elim (m.moved x z s) [
   | inl o ↦ elim (settled o) [
     | inl t ↦ inl (coarser x y t)
@@ -93,7 +107,8 @@ face_antisym faces digraph no_cycle x y f g = elim (face_cases faces digraph x y
 ]
 
 -- nothing lies between the cells of a part of one cell
-pub gaps_wait-own : (faces : List (List ℕ)) (own new waiting : List ℕ) → IsDigraph faces → ((x : ℕ) → ¬ IsBelowItself faces x) → ((x : ℕ) → x < length own → slice_index own x ≡ x) → LetsMovedWait own new [] waiting → GapsWait (IsFace faces) new waiting
+pub gaps_wait-own : (faces : List (List ℕ)) (own new waiting : List ℕ) → IsDigraph faces → ((x : ℕ) → ¬ IsBelowItself faces x)
+    → ((x : ℕ) → x < length own → slice_index own x ≡ x) → LetsMovedWait own new [] waiting → GapsWait (IsFace faces) new waiting
 gaps_wait-own faces own new waiting digraph no_cycle is_own m x y z f g s = elim (m.moved x z s) [
   | inl o ↦
       let z_x : z ≡ x = sym (is_own z o.1.0) ∙ o.1.1 ∙ is_own x o.0 in
@@ -103,8 +118,10 @@ gaps_wait-own faces own new waiting digraph no_cycle is_own m x y z f g s = elim
 ]
 
 -- when x has been looked at below and above, only those are not settled that wait
-pub look-settled : (below above : List (List ℕ)) (x : ℕ) (old mid new before during after : List ℕ) → IsTurnedRound below above → Refines old new → Refines mid new → LetsMovedWait old new before after → LetsMovedWait mid new during after →
-    GapsWait (ListedStep below) old (before ++ x ∷ []) → ((y z : ℕ) → ListedStep below x y → ListedStep below y z → IsSettled mid during x y z) → ((y z : ℕ) → ListedStep above x y → ListedStep above y z → IsSettled new after x y z) →
+pub look-settled : (below above : List (List ℕ)) (x : ℕ) (old mid new before during after : List ℕ) → IsTurnedRound below above → Refines old new
+    → Refines mid new → LetsMovedWait old new before after → LetsMovedWait mid new during after →
+    GapsWait (ListedStep below) old (before ++ x ∷ []) → ((y z : ℕ) → ListedStep below x y → ListedStep below y z → IsSettled mid during x y z)
+    → ((y z : ℕ) → ListedStep above x y → ListedStep above y z → IsSettled new after x y z) →
     GapsWait (ListedStep below) new after
 look-settled below above x old mid new before during after turned coarser coarser' m m' settled down up u v w f g s = elim (m.moved u w s) [
   | inl o ↦ elim (settled u v w f g o) [
@@ -116,10 +133,11 @@ look-settled below above x old mid new before during after turned coarser coarse
       ]
       | inr c ↦ elim (Contains-push_cases before x w c) [
         | inl b ↦ inr (inr (m.kept w b))
-        | inr e ↦ subst (λ i. ListedStep below v i → ShareAPart new u i → ShareAPart new u v ⊎ (Contains after u ⊎ Contains after i)) e (λ g' s'. elim (up v u ((turned.steps v x).1 g') ((turned.steps u v).1 f) (share-sym new u x s')) [
-          | inl t ↦ inl (share-trans new u x v s' t)
-          | inr w' ↦ inr (elim w' [ inl a ↦ inr a | inr b ↦ inl b ])
-        ]) g s
+        | inr e ↦ subst (λ i. ListedStep below v i → ShareAPart new u i → ShareAPart new u v ⊎ (Contains after u ⊎ Contains after i)) e
+            (λ g' s'. elim (up v u ((turned.steps v x).1 g') ((turned.steps u v).1 f) (share-sym new u x s')) [
+              | inl t ↦ inl (share-trans new u x v s' t)
+              | inr w' ↦ inr (elim w' [ inl a ↦ inr a | inr b ↦ inl b ])
+            ]) g s
       ]
     ]
   ]

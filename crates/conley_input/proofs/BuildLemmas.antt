@@ -1,14 +1,14 @@
 -- The problem that stands for a file, from what was made of it.
 use Rattle.std.proofs.Common.{◌≡◌, ◌<◌, ℕ, List, Bool, map, length, sym, ◌∙◌, ap, subst, arith}
 use Rattle.std.specs.Prelude.{All}
+use Rattle.conley_json.specs.Meaning.{texts}
 use Rattle.conley_field.specs.Prime.{residues}
-use Rattle.conley_walk.specs.Lists.{items_of, ListedStep, IsOrderedCopy}
+use Rattle.conley_lists.specs.Lists.{items_of, ListedStep, IsOrderedCopy}
 use Rattle.conley_faces.specs.Face.{IsCellList}
 use Rattle.conley_lefschetz.specs.Complex.{Layout, IsLayout}
 use Rattle.conley_mvf.specs.Partition.{IsPartition, IsMultivectorField}
 use Rattle.conley_input.specs.File.{File}
 use Rattle.conley_input.specs.Listing.{IsComplexIn, cells_in}
-use Rattle.conley_input.specs.Meaning.{texts}
 use Rattle.conley_input.specs.Problem.{IsFieldOf, IsListedAs, ArePartsFor, AreNamedSets, ReadsFile, IsSound}
 use Rattle.conley_input.specs.ProblemMeaning.{meaning_of_set}
 use Rattle.conley_input.specs.Problem as spec
@@ -22,7 +22,8 @@ use Rattle.conley_input.specs.Meaning.{file_of}
 use Rattle.conley_input.proofs.SetLemmas.{set_names, set_lists, names_meant, lists_meant, cells_are_lists}
 
 -- what was read of a file, as what the file lists
-module _ (file : ProblemFile) (layout : Layout) (field : FieldFile) (sets : SetsFile) (complex : IsComplexIn (file_of file) layout) (same_field : field ≡ file.field) (same_sets : sets ≡ file.sets) where
+module _ (file : ProblemFile) (layout : Layout) (field : FieldFile) (sets : SetsFile) (complex : IsComplexIn (file_of file) layout)
+    (same_field : field ≡ file.field) (same_sets : sets ≡ file.sets) where
   pub listed_as : IsListedAs (file_of file) layout (map texts field.parts.items) (map texts sets.lists.items)
   listed_as = record {
     complex = complex;
@@ -40,12 +41,16 @@ module _ (file : ProblemFile) (layout : Layout) (field : FieldFile) (sets : Sets
   pub names_as : (names : List (List ℕ)) → names ≡ texts sets.names → names ≡ texts file.sets.names
   names_as names are = are ∙ ap (λ (s : SetsFile). texts s.names) same_sets
 
-  pub sets_as : (cells : List (List ℕ)) → cells ≡ cells_in layout.labels (map texts sets.lists.items) → cells ≡ cells_in layout.labels (map texts file.sets.lists.items)
+  pub sets_as : (cells : List (List ℕ)) → cells ≡ cells_in layout.labels (map texts sets.lists.items)
+      → cells ≡ cells_in layout.labels (map texts file.sets.lists.items)
   sets_as cells are = are ∙ ap (λ (s : SetsFile). cells_in layout.labels (map texts s.lists.items)) same_sets
 
-module _ (file : File) (order : ℕ) (layout : Layout) (part_of : List ℕ) (sets : List NamedSet) (hull : Bool) (parts cells : List (List ℕ)) (order_is : order ≡ file.scalars) (of : IsFieldOf file hull layout parts)
-    (accepted : (fault : FileFault) → ¬ Fails file fault) (are : ArePartsFor hull layout.faces parts part_of) (field : IsMultivectorField layout.faces part_of) (numbering : IsPartition part_of)
-    (names : set_names sets ≡ file.sets.names) (copy : IsOrderedCopy (items_of (set_lists sets)) cells) (cells_are : cells ≡ cells_in layout.labels file.sets.lists)
+module _ (file : File) (order : ℕ) (layout : Layout) (part_of : List ℕ) (sets : List NamedSet) (hull : Bool) (parts cells : List (List ℕ))
+    (order_is : order ≡ file.scalars) (of : IsFieldOf file hull layout parts)
+    (accepted : (fault : FileFault) → ¬ Fails file fault) (are : ArePartsFor hull layout.faces parts part_of) (field : IsMultivectorField layout.faces part_of)
+    (numbering : IsPartition part_of)
+    (names : set_names sets ≡ file.sets.names) (copy : IsOrderedCopy (items_of (set_lists sets)) cells)
+    (cells_are : cells ≡ cells_in layout.labels file.sets.lists)
     (within : (k x : ℕ) → ListedStep cells k x → x < length layout.dims) where
   copies : IsOrderedCopy (map (λ (set : spec.NamedSet). set.cells) (map meaning_of_set sets)) cells
   copies = subst (λ ls. IsOrderedCopy ls cells) (sym (lists_meant sets)) copy
@@ -63,7 +68,8 @@ module _ (file : File) (order : ℕ) (layout : Layout) (part_of : List ℕ) (set
   }
 
   of_kind : ArePartsFor file.field.is_hull layout.faces (cells_in layout.labels file.field.parts) part_of
-  of_kind = subst (λ kind. ArePartsFor kind layout.faces (cells_in layout.labels file.field.parts) part_of) (sym of.kind) (subst (λ ls. ArePartsFor hull layout.faces ls part_of) of.parts are)
+  of_kind = subst (λ kind. ArePartsFor kind layout.faces (cells_in layout.labels file.field.parts) part_of) (sym of.kind)
+      (subst (λ ls. ArePartsFor hull layout.faces ls part_of) of.parts are)
 
   pub built : ReadsFile file (record { order = order; complex = layout; part_of = part_of; sets = map meaning_of_set sets })
   built = record {
@@ -72,4 +78,10 @@ module _ (file : File) (order : ℕ) (layout : Layout) (part_of : List ℕ) (set
   }
 
   pub built_sound : IsSound (record { order = order; complex = layout; part_of = part_of; sets = map meaning_of_set sets })
-  built_sound = record { laws = subst (λ o. IsLayout (residues o) layout) (sym order_is) of.complex.laws; field = field; partition = numbering; sets = cells_alone }
+  built_sound = record {
+    laws = subst (λ o. IsLayout (residues o) layout) (sym order_is) of.complex.laws;
+    field = field;
+    partition = numbering;
+    sets =
+        cells_alone;
+  }

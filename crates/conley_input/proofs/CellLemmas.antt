@@ -3,19 +3,19 @@ use Rattle.std.proofs.Common.{◌≡◌, ◌<◌, ℕ, ℤ, pos, negsuc, zero, s
 use Rattle.std.specs.declared.alloc.Global.{Global}
 use Rattle.std.proofs.lemmas.List.{map-id}
 use Rattle.std.proofs.lemmas.List.Elements.{All-map}
+use Rattle.conley_json.specs.Meaning.{own}
 use Rattle.conley_field.specs.AnyField.{arithmetic_of}
 use Rattle.conley_field.specs.Arithmetic.{Arithmetic, IsField, ones, code_of_int}
 use Rattle.conley_field.specs.Prime.{residues}
 use Rattle.conley_field.specs.declared.any.AnyField.{AnyField}
 use Rattle.conley_field.specs.declared.any.AnyField.TheVariants.{Prime}
-use Rattle.conley_walk.specs.Lists.{items_of}
+use Rattle.conley_lists.specs.Lists.{items_of}
 use Rattle.conley_lefschetz.specs.Complex.{Layout, IsLayout}
 use Rattle.conley_lefschetz.proofs.OnceLemmas as of_cells
 use Rattle.conley_simplicial.proofs.OnceLemmas as of_simplices
 use Rattle.conley_cubical.proofs.OnceLemmas as of_cubes
 use Rattle.conley_input.specs.File.{File, Complex, lefschetz, simplicial, cubical}
 use Rattle.conley_input.specs.Listing.{scalars_of, with_scalar, with_scalars, cell_listing, IsComplexFor, IsComplexIn}
-use Rattle.conley_input.specs.Meaning.{own}
 
 -- a field of the table has the residues modulo its order
 pub arithmetic_of-residues : (f : AnyField) → arithmetic_of f ≡ residues (arithmetic_of f).order

@@ -4,10 +4,11 @@ use Rattle.std.specs.declared.alloc.Global.{Global}
 use Rattle.std.proofs.lemmas.Bool.{false≢true}
 use Rattle.conley_field.specs.Arithmetic.{Arithmetic}
 use Rattle.conley_first.specs.First.{Precedes, StandsBefore}
-use Rattle.conley_lefschetz.specs.Listing.{Listing}
+use Rattle.conley_lefschetz.specs.Listing.{Listing, bytes_of}
 use Rattle.conley_lefschetz.specs.Fault as of_cells
 use Rattle.conley_lefschetz.specs.declared.error.ComplexError.{ComplexError}
 use Rattle.conley_lefschetz.specs.declared.error.ComplexError.TheVariants as cells
+use Rattle.conley_lefschetz.proofs.TextLemmas.{length-bytes_of}
 use Rattle.conley_simplicial.specs.Fault as of_simplices
 use Rattle.conley_simplicial.specs.declared.error.SimplicialError.{SimplicialError}
 use Rattle.conley_simplicial.specs.declared.error.SimplicialError.TheVariants as simplices
@@ -18,13 +19,11 @@ use Rattle.conley_input.specs.Errors.{cells_error, simplices_error, cubes_error}
 use Rattle.conley_input.specs.File.{lefschetz, simplicial, cubical}
 use Rattle.conley_input.specs.Limits.{most_generated}
 use Rattle.conley_input.specs.Listing.{labels_of, dims_of, with_scalars, cell_listing}
-use Rattle.conley_input.specs.Meaning.{bytes_of}
 use Rattle.conley_input.specs.RefusalOrder.{number, place}
 use Rattle.conley_input.specs.Refusals.{FailsIn, IsFirstIn, is_label}
 use Rattle.conley_input.specs.declared.error.FileFault.{FileFault}
 use Rattle.conley_input.specs.declared.error.FileFault.TheVariants.{NotJson, BadLabel, DuplicateLabel, BadIncidence, BadSimplex, BadAxes, BadCube, TooManyCells, NotBoundary}
 use Rattle.conley_input.specs.declared.error.InputError.TheVariants.{Bad}
-use Rattle.conley_input.proofs.TextLemmas.{length-bytes_of}
 use Rattle.conley_input.proofs.RefusalLemmas.{behind, no_greater, first_told, none_told}
 
 -- a lesser number stands not behind a greater one
@@ -57,9 +56,11 @@ pub listing_is : (F : Arithmetic) (listed : List (List ℕ × ℕ)) (incidences 
     → ◌≡◌ {A = Listing} (record { labels = labels; dims = dims; incidences = with_scalars F incidences }) (cell_listing F listed incidences)
 listing_is F listed incidences labels dims labels_are dims_are = cc
 
-pub good_labels : (labels : List (String Global)) (texts : List (List ℕ)) → bytes_of labels ≡ texts → ((j : ℕ) → j < length labels → is_label (get_or (bytes_of labels) j []) ≡ true)
+pub good_labels : (labels : List (String Global)) (texts : List (List ℕ)) → bytes_of labels ≡ texts
+    → ((j : ℕ) → j < length labels → is_label (get_or (bytes_of labels) j []) ≡ true)
     → (k : ℕ) → k < length texts → is_label (get_or texts k []) ≡ true
-good_labels labels texts same good = subst (λ (ts : List (List ℕ)). (k : ℕ) → k < length ts → is_label (get_or ts k []) ≡ true) same (λ k lt. good k (omega (arith, lt, length-bytes_of labels)))
+good_labels labels texts same good = subst (λ (ts : List (List ℕ)). (k : ℕ) → k < length ts → is_label (get_or ts k []) ≡ true) same
+    (λ k lt. good k (omega (arith, lt, length-bytes_of labels)))
 
 module _ (F : Arithmetic) (listed : List (List ℕ × ℕ)) (incidences : List (ℕ × ℕ × ℤ)) where
   cells_back : (error : ComplexError) → of_cells.Fails F (cell_listing F listed incidences) error → FailsIn F (lefschetz listed incidences) (cells_told error)
@@ -83,24 +84,31 @@ module _ (F : Arithmetic) (listed : List (List ℕ × ℕ)) (incidences : List (
   cells_kept a cells.NoMemory f g p = absurd g
 
   -- where each label keeps the rule
-  module _ (good : (k : ℕ) → k < length (labels_of (lefschetz listed incidences)) → is_label (get_or (labels_of (lefschetz listed incidences)) k []) ≡ true) where
-    cells_onto : (fault : FileFault) → FailsIn F (lefschetz listed incidences) fault → (error : ComplexError) × (cells_told error ≡ fault) × of_cells.Fails F (cell_listing F listed incidences) error
+  module _ (good : (k : ℕ) → k < length (labels_of (lefschetz listed incidences)) → is_label (get_or (labels_of (lefschetz listed incidences)) k []) ≡
+      true) where
+    cells_onto : (fault : FileFault) → FailsIn F (lefschetz listed incidences) fault → (error : ComplexError) × (cells_told error ≡ fault)
+        × of_cells.Fails F (cell_listing F listed incidences) error
     cells_onto (BadLabel k) f = absurd (false≢true (sym f.1 ∙ good k f.0))
     cells_onto (DuplicateLabel i j) f = (cells.DuplicateLabel i j, refl, f)
     cells_onto (BadIncidence k why) f = (cells.BadIncidence k why, refl, f)
     cells_onto (NotBoundary x z) f = (cells.NotBoundary x z, refl, f)
     cells_onto fault f = absurd f
 
-    pub first_cells : (error : ComplexError) → of_cells.IsFirstFault F (cell_listing F listed incidences) error → (fault : FileFault) → cells_error error ≡ Bad fault → IsFirstIn F (lefschetz listed incidences) fault
+    pub first_cells : (error : ComplexError) → of_cells.IsFirstFault F (cell_listing F listed incidences) error → (fault : FileFault)
+        → cells_error error ≡ Bad fault → IsFirstIn F (lefschetz listed incidences) fault
     first_cells error f fault e =
         subst (IsFirstIn F (lefschetz listed incidences)) (cells_told_is error fault e)
-        (first_told of_cells.number of_cells.place (of_cells.Fails F (cell_listing F listed incidences)) (FailsIn F (lefschetz listed incidences)) cells_told cells_onto cells_back cells_kept error f)
+        (first_told of_cells.number of_cells.place (of_cells.Fails F (cell_listing F listed incidences)) (FailsIn F (lefschetz listed incidences)) cells_told
+        cells_onto cells_back cells_kept error f)
 
-    pub no_cells : ((error : ComplexError) → ¬ of_cells.Fails F (cell_listing F listed incidences) error) → (fault : FileFault) → ¬ FailsIn F (lefschetz listed incidences) fault
-    no_cells none = none_told of_cells.number of_cells.place (of_cells.Fails F (cell_listing F listed incidences)) (FailsIn F (lefschetz listed incidences)) cells_told cells_onto cells_back cells_kept none
+    pub no_cells : ((error : ComplexError) → ¬ of_cells.Fails F (cell_listing F listed incidences) error) → (fault : FileFault)
+        → ¬ FailsIn F (lefschetz listed incidences) fault
+    no_cells none = none_told of_cells.number of_cells.place (of_cells.Fails F (cell_listing F listed incidences)) (FailsIn F (lefschetz listed incidences))
+        cells_told cells_onto cells_back cells_kept none
 
   -- the first label that breaks the rule
-  pub first_label : (k : ℕ) → FailsIn F (lefschetz listed incidences) (BadLabel k) → ((j : ℕ) → j < k → is_label (get_or (labels_of (lefschetz listed incidences)) j []) ≡ true) → IsFirstIn F (lefschetz listed incidences) (BadLabel k)
+  pub first_label : (k : ℕ) → FailsIn F (lefschetz listed incidences) (BadLabel k) → ((j : ℕ) → j < k
+      → is_label (get_or (labels_of (lefschetz listed incidences)) j []) ≡ true) → IsFirstIn F (lefschetz listed incidences) (BadLabel k)
   first_label k f before = record { holds = f; first = none }
     where
       none : (other : FileFault) → StandsBefore number place other (BadLabel k) → ¬ FailsIn F (lefschetz listed incidences) other
@@ -134,14 +142,16 @@ simplices_not_memory (simplices.TooManyCells least) fault e same = cc
 simplices_not_memory simplices.NoMemory fault e same = cc
 
 module _ (F : Arithmetic) (vertices listed : List (List ℕ)) where
-  simplices_onto : (fault : FileFault) → FailsIn F (simplicial vertices listed) fault → (error : SimplicialError) × (simplices_told error ≡ fault) × of_simplices.Fails vertices listed most_generated error
+  simplices_onto : (fault : FileFault) → FailsIn F (simplicial vertices listed) fault → (error : SimplicialError) × (simplices_told error ≡ fault)
+      × of_simplices.Fails vertices listed most_generated error
   simplices_onto (BadLabel k) f = (simplices.BadLabel k, refl, f)
   simplices_onto (DuplicateLabel i j) f = (simplices.DuplicateLabel i j, refl, f)
   simplices_onto (BadSimplex k) f = (simplices.BadSimplex k, refl, f)
   simplices_onto (TooManyCells least) f = (simplices.TooManyCells least, refl, f)
   simplices_onto fault f = absurd f
 
-  simplices_back : (error : SimplicialError) → of_simplices.Fails vertices listed most_generated error → FailsIn F (simplicial vertices listed) (simplices_told error)
+  simplices_back : (error : SimplicialError) → of_simplices.Fails vertices listed most_generated error
+      → FailsIn F (simplicial vertices listed) (simplices_told error)
   simplices_back (simplices.BadLabel k) f = f
   simplices_back (simplices.DuplicateLabel i j) f = f
   simplices_back (simplices.BadSimplex k) f = f
@@ -164,18 +174,23 @@ module _ (F : Arithmetic) (vertices listed : List (List ℕ)) where
   simplices_kept (simplices.BadSimplex k) (simplices.TooManyCells n) f g p = inl (omega arith)
   simplices_kept (simplices.TooManyCells m) (simplices.BadLabel l) f g p = before_less 8 5 (4 ∷ m ∷ []) (l ∷ []) (omega arith) p
   simplices_kept (simplices.TooManyCells m) (simplices.DuplicateLabel i j) f g p = before_less 8 6 (4 ∷ m ∷ []) (j ∷ i ∷ []) (omega arith) p
-  simplices_kept (simplices.TooManyCells m) (simplices.BadSimplex l) f g p = before_less 4 1 (m ∷ []) (l ∷ []) (omega arith) (behind 8 (4 ∷ m ∷ []) (1 ∷ l ∷ []) p)
+  simplices_kept (simplices.TooManyCells m) (simplices.BadSimplex l) f g p = before_less 4 1 (m ∷ []) (l ∷ []) (omega arith)
+      (behind 8 (4 ∷ m ∷ []) (1 ∷ l ∷ []) p)
   simplices_kept (simplices.TooManyCells m) (simplices.TooManyCells n) f g p = inr (refl, behind 4 (m ∷ []) (n ∷ []) (behind 8 (4 ∷ m ∷ []) (4 ∷ n ∷ []) p))
   simplices_kept simplices.NoMemory b f g p = absurd f
   simplices_kept a simplices.NoMemory f g p = absurd g
 
-  pub first_simplices : (error : SimplicialError) → of_simplices.IsFirstFault vertices listed most_generated error → (fault : FileFault) → simplices_error error ≡ Bad fault → IsFirstIn F (simplicial vertices listed) fault
+  pub first_simplices : (error : SimplicialError) → of_simplices.IsFirstFault vertices listed most_generated error → (fault : FileFault)
+      → simplices_error error ≡ Bad fault → IsFirstIn F (simplicial vertices listed) fault
   first_simplices error f fault e =
       subst (IsFirstIn F (simplicial vertices listed)) (simplices_told_is error fault e)
-      (first_told of_simplices.number of_simplices.place (of_simplices.Fails vertices listed most_generated) (FailsIn F (simplicial vertices listed)) simplices_told simplices_onto simplices_back simplices_kept error f)
+      (first_told of_simplices.number of_simplices.place (of_simplices.Fails vertices listed most_generated) (FailsIn F (simplicial vertices listed))
+      simplices_told simplices_onto simplices_back simplices_kept error f)
 
-  pub no_simplices : ((error : SimplicialError) → ¬ of_simplices.Fails vertices listed most_generated error) → (fault : FileFault) → ¬ FailsIn F (simplicial vertices listed) fault
-  no_simplices none = none_told of_simplices.number of_simplices.place (of_simplices.Fails vertices listed most_generated) (FailsIn F (simplicial vertices listed)) simplices_told simplices_onto simplices_back simplices_kept none
+  pub no_simplices : ((error : SimplicialError) → ¬ of_simplices.Fails vertices listed most_generated error) → (fault : FileFault)
+      → ¬ FailsIn F (simplicial vertices listed) fault
+  no_simplices none = none_told of_simplices.number of_simplices.place (of_simplices.Fails vertices listed most_generated)
+      (FailsIn F (simplicial vertices listed)) simplices_told simplices_onto simplices_back simplices_kept none
 
 -- ---- axes and cubes
 
@@ -198,7 +213,8 @@ cubes_not_memory (cubes.TooManyCells least) fault e same = cc
 cubes_not_memory cubes.NoMemory fault e same = cc
 
 module _ (F : Arithmetic) (axes : ℕ) (listed : List (List (ℤ × ℤ))) where
-  cubes_onto : (fault : FileFault) → FailsIn F (cubical axes listed) fault → (error : CubicalError) × (cubes_told error ≡ fault) × of_cubes.Fails axes listed most_generated error
+  cubes_onto : (fault : FileFault) → FailsIn F (cubical axes listed) fault → (error : CubicalError) × (cubes_told error ≡ fault)
+      × of_cubes.Fails axes listed most_generated error
   cubes_onto (BadAxes n) f = (cubes.BadAxes n, refl, f)
   cubes_onto (BadCube k) f = (cubes.BadCube k, refl, f)
   cubes_onto (TooManyCells least) f = (cubes.TooManyCells least, refl, f)
@@ -224,10 +240,13 @@ module _ (F : Arithmetic) (axes : ℕ) (listed : List (List (ℤ × ℤ))) where
   cubes_kept cubes.NoMemory b f g p = absurd f
   cubes_kept a cubes.NoMemory f g p = absurd g
 
-  pub first_cubes : (error : CubicalError) → of_cubes.IsFirstFault axes listed most_generated error → (fault : FileFault) → cubes_error error ≡ Bad fault → IsFirstIn F (cubical axes listed) fault
+  pub first_cubes : (error : CubicalError) → of_cubes.IsFirstFault axes listed most_generated error → (fault : FileFault) → cubes_error error ≡ Bad fault
+      → IsFirstIn F (cubical axes listed) fault
   first_cubes error f fault e =
       subst (IsFirstIn F (cubical axes listed)) (cubes_told_is error fault e)
-      (first_told of_cubes.number of_cubes.place (of_cubes.Fails axes listed most_generated) (FailsIn F (cubical axes listed)) cubes_told cubes_onto cubes_back cubes_kept error f)
+      (first_told of_cubes.number of_cubes.place (of_cubes.Fails axes listed most_generated) (FailsIn F (cubical axes listed)) cubes_told cubes_onto cubes_back
+      cubes_kept error f)
 
   pub no_cubes : ((error : CubicalError) → ¬ of_cubes.Fails axes listed most_generated error) → (fault : FileFault) → ¬ FailsIn F (cubical axes listed) fault
-  no_cubes none = none_told of_cubes.number of_cubes.place (of_cubes.Fails axes listed most_generated) (FailsIn F (cubical axes listed)) cubes_told cubes_onto cubes_back cubes_kept none
+  no_cubes none = none_told of_cubes.number of_cubes.place (of_cubes.Fails axes listed most_generated) (FailsIn F (cubical axes listed)) cubes_told cubes_onto
+      cubes_back cubes_kept none

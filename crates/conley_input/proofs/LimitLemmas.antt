@@ -4,7 +4,7 @@ use Rattle.std.specs.Prelude.{Any}
 use Rattle.std.specs.declared.alloc.Global.{Global}
 use Rattle.std.proofs.lemmas.Bool.{cases_lt}
 use Rattle.std.proofs.lemmas.List.{get_or_default, get_or-map, length-map}
-use Rattle.conley_walk.specs.Lists.{items_of}
+use Rattle.conley_lists.specs.Lists.{items_of}
 use Rattle.conley_input.specs.File.{File}
 use Rattle.conley_input.specs.Limits.{most_cells, most_listed, most_sets, most_dimension}
 use Rattle.conley_input.specs.Listing.{labels_of, dims_of, count_of}
@@ -17,17 +17,41 @@ no_limit file clear limit least passes = clear.none (TooMany limit least) (lit< 
 
 module _ (file : File) (none : (limit least : ℕ) → ¬ PassesLimit file limit least) where
   pub few_labels : length (labels_of file.complex) ≤ most_cells
-  few_labels = elim (cases_lt most_cells (length (labels_of file.complex))) [ inl more ↦ absurd (none 1 (most_cells + 1) (inl (refl, refl, more))) | inr few ↦ few ]
+  few_labels = elim (cases_lt most_cells (length (labels_of file.complex))) [
+    | inl more ↦ absurd (none 1 (most_cells + 1) (inl (refl, refl, more)))
+    | inr
+        few ↦ few
+  ]
 
   pub few_listed : count_of file.complex ≤ most_listed
-  few_listed = elim (cases_lt most_listed (count_of file.complex)) [ inl more ↦ absurd (none 2 (most_listed + 1) (inr (inl (refl, refl, more)))) | inr few ↦ few ]
+  few_listed = elim (cases_lt most_listed (count_of file.complex)) [
+    | inl more ↦ absurd (none 2 (most_listed + 1) (inr (inl (refl, refl, more))))
+    | inr
+        few ↦ few
+  ]
 
   pub few_names : length file.sets.names ≤ most_sets
-  few_names = elim (cases_lt most_sets (length file.sets.names)) [ inl more ↦ absurd (none 3 (most_sets + 1) (inr (inr (inl (refl, refl, more))))) | inr few ↦ few ]
+  few_names = elim (cases_lt most_sets (length file.sets.names)) [
+    | inl more ↦ absurd (none 3 (most_sets + 1) (inr (inr (inl (refl, refl, more)))))
+    | inr
+        few ↦ few
+  ]
 
   pub dims_within : All (λ dim. dim ≤ most_dimension) (dims_of file.complex)
   dims_within k d lt = elim (cases_lt most_dimension (get_or (dims_of file.complex) k d)) [
-    | inl above ↦ absurd (none 4 (most_dimension + 1) (inr (inr (inr (inl (refl, refl, (k, get_or (dims_of file.complex) k d, lt, get_or_default (dims_of file.complex) k (get_or (dims_of file.complex) k d) d lt, above)))))))
+    | inl above ↦ absurd (none 4 (most_dimension + 1)
+        (inr (inr (inr (inl (
+          refl,
+          refl,
+          (
+            k,
+            get_or (dims_of file.complex) k d,
+            lt,
+            get_or_default (dims_of file.complex) k (get_or (dims_of file.complex) k d)
+                d lt,
+            above,
+          ),
+        ))))))
     | inr within ↦ omega (arith, within)
   ]
 
@@ -63,7 +87,8 @@ module _ (cells : List (String Global × ℕ)) (k : ℕ) (cell : String Global �
 pub length-cells : {Y : Type 0} (f : List ℕ × ℕ → Y) (cells : List (String Global × ℕ)) → length (map f (cell_texts cells)) ≡ length cells
 length-cells f cells = length-map (cell_texts cells) f ∙ length-map cells text_of
 
-pub size_at : (simplices : List (Vec ℕ Global)) (k : ℕ) (s : Vec ℕ Global) → k < length simplices → s ≡ get_or simplices k s → get_or (map (λ (s : List ℕ). length s - 1) (items_of simplices)) k 0 ≡ length s.items - 1
+pub size_at : (simplices : List (Vec ℕ Global)) (k : ℕ) (s : Vec ℕ Global) → k < length simplices
+    → s ≡ get_or simplices k s → get_or (map (λ (s : List ℕ). length s - 1) (items_of simplices)) k 0 ≡ length s.items - 1
 size_at simplices k s lt is =
     let items : Vec ℕ Global → List ℕ = λ v. v.items in
     get_or-map (λ (s : List ℕ). length s - 1) (items_of simplices) k [] 0 (omega (arith, lt, length-map simplices items))

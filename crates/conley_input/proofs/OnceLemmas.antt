@@ -1,16 +1,14 @@
 -- At most one refusal is the first, none is where a problem is read, and at most one problem is read.
-use Rattle.std.proofs.Common.{◌≡◌, inl, inr, ◌+◌, ◌<◌, ◌≤◌, ℕ, zero, suc, Bool, true, false, List, [], ◌∷◌, Result, Ok, Err, map, length, get_or, refl, sym, ◌∙◌, ap, subst, arith}
+use Rattle.std.proofs.Common.{◌≡◌, inl, inr, ◌+◌, ◌<◌, ◌≤◌, ℕ, zero, suc, Bool, true, false, List, [], ◌∷◌, Result, Ok, Err, map, length, refl, sym, ◌∙◌, ap, subst, arith}
 use Rattle.std.specs.Prelude.{◌==◌, if◌then◌else◌, slice_index}
 use Rattle.std.proofs.lemmas.Bool.{cases_order}
 use Rattle.std.proofs.lemmas.Grind.{same_number_lists}
-use Rattle.std.proofs.lemmas.List.{ext_get_or}
 use Rattle.conley_first.proofs.FirstLemmas.{first-one}
 use Rattle.conley_field.specs.Arithmetic.{IsField}
 use Rattle.conley_field.specs.Prime.{is_prime_order, residues}
 use Rattle.conley_field.specs.ResidueLaws.{residues-IsField}
 use Rattle.conley_lefschetz.specs.Complex.{Layout, IsLayout}
-use Rattle.conley_walk.specs.Lists.{IsOrderedCopy}
-use Rattle.conley_walk.proofs.AscendingLemmas.{same_numbers}
+use Rattle.conley_lists.proofs.AscendingLemmas.{copy_once}
 use Rattle.conley_mvf.specs.Partition.{IsWhole, IsPartition}
 use Rattle.conley_hull.proofs.OnceLemmas.{one_hull}
 use Rattle.conley_input.specs.File.{File}
@@ -25,7 +23,8 @@ use Rattle.conley_input.specs.declared.error.FileFault.TheVariants.{NotJson, Bad
 
 -- what a limit keeps
 abbrev least_of : ℕ → ℕ
-least_of limit = if limit == 1 then most_cells + 1 else (if limit == 2 then most_listed + 1 else (if limit == 3 then most_sets + 1 else (if limit == 4 then most_dimension + 1 else most_bytes + 1)))
+least_of limit = if limit == 1 then most_cells + 1 else (if limit == 2 then most_listed + 1 else
+    (if limit == 3 then most_sets + 1 else (if limit == 4 then most_dimension + 1 else most_bytes + 1)))
 
 limit_told : (file : File) (limit least : ℕ) → PassesLimit file limit least → least ≡ least_of limit
 limit_told file limit least (inl r) = r.1 ∙ sym (ap least_of r.0)
@@ -118,7 +117,8 @@ module _ (lists : List (List ℕ)) (p q : List ℕ) (cells : length p ≡ length
   parts_once = same_number_lists p q cells (λ k lt. numbers_below (length p) (omega arith) k lt)
 
 -- the parts of a field of one kind
-parts_for_once : (hull : Bool) (faces lists : List (List ℕ)) (p q : List ℕ) → length p ≡ length q → IsPartition p → IsPartition q → ArePartsFor hull faces lists p → ArePartsFor hull faces lists q → p ≡ q
+parts_for_once : (hull : Bool) (faces lists : List (List ℕ)) (p q : List ℕ) → length p ≡ length q → IsPartition p → IsPartition q
+    → ArePartsFor hull faces lists p → ArePartsFor hull faces lists q → p ≡ q
 parts_for_once false faces lists p q cells pp pq a b = parts_once lists p q cells a b pp pq
 parts_for_once true faces lists p q cells pp pq a b = one_hull faces lists p q pp pq a b
 
@@ -150,20 +150,18 @@ named_once (x ∷ a) (y ∷ b) e f =
     let first : x ≡ y = set_once x y name cells in
     cc
 
-copy_once : (lists a b : List (List ℕ)) → IsOrderedCopy a lists → IsOrderedCopy b lists → a ≡ b
-copy_once lists a b x y = ext_get_or [] a b (x.count ∙ sym y.count) (λ k lt.
-    same_numbers (get_or a k []) (get_or b k []) (x.ascending k) (y.ascending k) (λ z. ((λ at. (y.same k z).1 ((x.same k z).0 at)), (λ at. (x.same k z).1 ((y.same k z).0 at)))))
-
 sets_once : (file : File) (layout : Layout) (a b : List NamedSet) → AreNamedSets file layout a → AreNamedSets file layout b → a ≡ b
-sets_once file layout a b is is' = named_once a b (is.names ∙ sym is'.names) (copy_once (cells_in layout.labels file.sets.lists) (lists_of a) (lists_of b) is.labels is'.labels)
+sets_once file layout a b is is' = named_once a b (is.names ∙ sym is'.names) (copy_once (cells_in layout.labels file.sets.lists) (lists_of a) (lists_of b)
+    is.labels is'.labels)
 
 -- problems with equal order, complex, parts and sets are equal
 problem_of : ℕ → Layout → List ℕ → List NamedSet → Problem
 problem_of order complex part_of sets = record { order = order; complex = complex; part_of = part_of; sets = sets }
 
-problem_once : (p q : Problem) → p.order ≡ q.order → p.complex ≡ q.complex → p.part_of ≡ q.part_of → p.sets ≡ q.sets → p ≡ q
+pub same_problem : (p q : Problem) → p.order ≡ q.order → p.complex ≡ q.complex → p.part_of ≡ q.part_of → p.sets ≡ q.sets → p ≡ q
 unfolding problem_of
-problem_once p q order complex part_of sets = let same : problem_of p.order p.complex p.part_of p.sets ≡ problem_of q.order q.complex q.part_of q.sets = cc in same
+same_problem p q order complex part_of sets = let same : problem_of p.order p.complex p.part_of p.sets ≡ problem_of q.order q.complex q.part_of q.sets = cc in
+    same
 
 listed_once : (form : Result File FileFault) (p q : Problem) → ReadsForm form p → ReadsForm form q → p ≡ q
 listed_once (Err r) p q a b = absurd a
@@ -172,10 +170,11 @@ listed_once (Ok file) p q a b =
     let cells : length p.part_of ≡ length q.part_of = a.stands.field.count ∙ ap (λ (c : Layout). length c.faces) same ∙ sym b.stands.field.count in
     let parts = subst (λ (c : Layout). ArePartsFor file.field.is_hull c.faces (cells_in c.labels file.field.parts) p.part_of) same a.stands.parts in
     let sets = subst (λ (c : Layout). AreNamedSets file c p.sets) same a.stands.sets in
-    problem_once p q
+    same_problem p q
     (a.stands.order ∙ sym b.stands.order)
     same
-    (parts_for_once file.field.is_hull q.complex.faces (cells_in q.complex.labels file.field.parts) p.part_of q.part_of cells a.stands.numbering b.stands.numbering parts b.stands.parts)
+    (parts_for_once file.field.is_hull q.complex.faces (cells_in q.complex.labels file.field.parts) p.part_of q.part_of cells a.stands.numbering
+    b.stands.numbering parts b.stands.parts)
     (sets_once file q.complex p.sets q.sets sets b.stands.sets)
 
 pub read_once : (bytes : List ℕ) (p q : Problem) → Reads bytes p → Reads bytes q → p ≡ q

@@ -101,7 +101,8 @@ module _ (file : File) where
   fails_in (NotBoundary x z) low high f = f
   fails_in fault low high f = absurd (omega (arith, low, high))
 
-  of_label : (Q : List ℕ → Type 0) → ((k : ℕ) → Q (k ∷ []) → ¬ Fails file (BadLabel k)) → (other : FileFault) → number other ≡ 5 → Q (place other) → ¬ Fails file other
+  of_label : (Q : List ℕ → Type 0) → ((k : ℕ) → Q (k ∷ []) → ¬ Fails file (BadLabel k)) → (other : FileFault) → number other ≡ 5 → Q (place other)
+      → ¬ Fails file other
   of_label Q none (BadLabel k) e q = none k q
   of_label Q none other e q = absurd (omega arith)
 
@@ -117,10 +118,17 @@ module _ (file : File) where
     pub clear_complex : ((fault : FileFault) → ¬ FailsIn (scalars_of file) file.complex fault) → ((k : ℕ) → ¬ IsBadName file k) → IsClear file 10
     clear_complex none names =
         let labels = clear_labels (λ k f. elim f [ inl g ↦ none (BadLabel k) g | inr n ↦ names k n ]) in
-        record { none = λ fault lt f. elim (cases_lt (number fault) 6) [ inl below ↦ labels.none fault below f | inr above ↦ none fault (fails_in fault (omega (arith, above)) lt f) ] }
+        record {
+          none = λ fault lt f. elim (cases_lt (number fault) 6) [
+            | inl below ↦ labels.none fault below f
+            | inr above ↦ none fault
+                (fails_in fault (omega (arith, above)) lt f)
+          ];
+        }
 
     -- the first bad name, where no label of the complex is bad
-    pub first_name : (k : ℕ) → IsBadName file k → ((j : ℕ) → j < k → ¬ IsBadName file j) → ((j : ℕ) → ¬ FailsIn (scalars_of file) file.complex (BadLabel j)) → IsFirstRefusal file (BadLabel k)
+    pub first_name : (k : ℕ) → IsBadName file k → ((j : ℕ) → j < k → ¬ IsBadName file j) → ((j : ℕ) → ¬ FailsIn (scalars_of file) file.complex (BadLabel j))
+        → IsFirstRefusal file (BadLabel k)
     first_name k bad before none = first_bad k (inr bad) (λ j less f. elim f [ inl g ↦ none j g | inr n ↦ before j less n ])
 
     -- a label of the complex stands before the names
@@ -133,7 +141,8 @@ module _ (file : File) where
     first_label fault e f = absurd (omega (arith, e))
 
     -- another refusal of the complex stands behind the names
-    first_later : (fault : FileFault) → 5 < number fault → ((k : ℕ) → ¬ IsBadName file k) → IsFirstIn (scalars_of file) file.complex fault → IsFirstRefusal file fault
+    first_later : (fault : FileFault) → 5 < number fault → ((k : ℕ) → ¬ IsBadName file k) → IsFirstIn (scalars_of file) file.complex fault
+        → IsFirstRefusal file fault
     first_later fault low names f =
         let none : (j : ℕ) → ¬ FailsIn (scalars_of file) file.complex (BadLabel j) = λ j g. f.first (BadLabel j) (inl low) g in
         let labels = clear_labels (λ k h. elim h [ inl g ↦ none k g | inr n ↦ names k n ]) in
@@ -142,7 +151,11 @@ module _ (file : File) where
           first = λ other before h.
               let high = (numbered (scalars_of file) file.complex fault f.holds).1 in
               let le = no_greater (number other) (number fault) (place other) (place fault) before in
-              elim (cases_lt (number other) 6) [ inl below ↦ labels.none other below h | inr above ↦ f.first other before (fails_in other (omega (arith, above)) (omega (arith, high, le)) h) ];
+              elim (cases_lt (number other) 6) [
+                | inl below ↦ labels.none other below h
+                | inr above ↦ f.first other before
+                    (fails_in other (omega (arith, above)) (omega (arith, high, le)) h)
+              ];
         }
 
     -- of a refusal of the complex and a bad name the one that stands first
@@ -152,26 +165,35 @@ module _ (file : File) where
     first_complex fault told name f bad before none label named other =
         elim (cases_order (number fault) 5) [
           | inl e ↦ subst (IsFirstRefusal file) (sym (label e)) (first_label fault e f)
-          | inr apart ↦ elim apart [ inl less ↦ absurd (omega (arith, less, (numbered (scalars_of file) file.complex fault f.holds).0)) | inr more ↦ later more name bad before none (named (λ e. omega (arith, e, more))) other ]
+          | inr apart ↦ elim apart [
+            | inl less ↦ absurd (omega (arith, less, (numbered (scalars_of file) file.complex fault f.holds).0))
+            | inr more ↦ later more
+                name bad before none (named (λ e. omega (arith, e, more))) other
+          ]
         ]
       where
-        later : 5 < number fault → (name : Option ℕ) → IfSome name (λ k. IsBadName file k) → IfSome name (λ k. (j : ℕ) → j < k → ¬ IsBadName file j) → IfNone name ((j : ℕ) → ¬ IsBadName file j)
+        later : 5 < number fault → (name : Option ℕ) → IfSome name (λ k. IsBadName file k) → IfSome name (λ k. (j : ℕ) → j < k → ¬ IsBadName file j)
+            → IfNone name ((j : ℕ) → ¬ IsBadName file j)
             → IfSome name (λ k. told ≡ BadLabel k) → IfNone name (told ≡ fault) → IsFirstRefusal file told
-        later more (Some k) bad before none named other = subst (IsFirstRefusal file) (sym named) (first_name k bad before (λ j g. f.first (BadLabel j) (inl more) g))
+        later more (Some k) bad before none named other = subst (IsFirstRefusal file) (sym named)
+            (first_name k bad before (λ j g. f.first (BadLabel j) (inl more) g))
         later more None bad before none named other = subst (IsFirstRefusal file) (sym other) (first_later fault more none f)
 
 -- ---- the parts
 
 module _ (file : File) where
-  of_unknown : (Q : List ℕ → Type 0) → ((l p : ℕ) → Q (l ∷ p ∷ []) → ¬ Fails file (UnknownCell l p)) → (other : FileFault) → number other ≡ 10 → Q (place other) → ¬ Fails file other
+  of_unknown : (Q : List ℕ → Type 0) → ((l p : ℕ) → Q (l ∷ p ∷ []) → ¬ Fails file (UnknownCell l p)) → (other : FileFault) → number other ≡ 10
+      → Q (place other) → ¬ Fails file other
   of_unknown Q none (UnknownCell l p) e q = none l p q
   of_unknown Q none other e q = absurd (omega arith)
 
   pub clear_unknown : IsClear file 10 → ((l p : ℕ) → ¬ Fails file (UnknownCell l p)) → IsClear file 11
   clear_unknown before none = clear-next number place (Fails file) 10 before (λ other e. of_unknown (λ _. Unit {0}) (λ l p _. none l p) other e tt)
 
-  pub first_unknown : IsClear file 10 → (l' p' : ℕ) → Fails file (UnknownCell l' p') → ((l p : ℕ) → Precedes (l ∷ p ∷ []) (l' ∷ p' ∷ []) → ¬ Fails file (UnknownCell l p)) → IsFirstRefusal file (UnknownCell l' p')
-  first_unknown before l' p' fails none = first-next number place (Fails file) 10 before (UnknownCell l' p') refl fails (of_unknown (λ a. Precedes a (l' ∷ p' ∷ [])) none)
+  pub first_unknown : IsClear file 10 → (l' p' : ℕ) → Fails file (UnknownCell l' p') → ((l p : ℕ) → Precedes (l ∷ p ∷ []) (l' ∷ p' ∷ [])
+      → ¬ Fails file (UnknownCell l p)) → IsFirstRefusal file (UnknownCell l' p')
+  first_unknown before l' p' fails none = first-next number place (Fails file) 10 before (UnknownCell l' p') refl fails
+      (of_unknown (λ a. Precedes a (l' ∷ p' ∷ [])) none)
 
 -- what is refused is no want of memory
 pub part_not_memory : (error : PartError) (fault : FileFault) → part_error error ≡ Bad fault → error ≡ part.NoMemory → ⊥
@@ -192,16 +214,20 @@ module _ (file : File) (clear : IsClear file 11) (whole : file.field.is_hull ≡
   parts_accepted none fault = clear.none fault (omega arith)
 
   -- what stands before a fault of parts, with the number that it has here and there
-  module _ (m m' : ℕ) (b : List ℕ) (shift : m ≡ m' + 9) (low : 11 ≤ m) (none : (error : PartError) → Precedes (parts.number error ∷ parts.place error) (m' ∷ b) → ¬ FailsAsParts file error) where
+  module _ (m m' : ℕ) (b : List ℕ) (shift : m ≡ m' + 9) (low : 11 ≤ m) (none : (error : PartError) → Precedes (parts.number error ∷ parts.place error) (m' ∷ b)
+      → ¬ FailsAsParts file error) where
     no_part_before : (other : FileFault) → Precedes (number other ∷ place other) (m ∷ b) → ¬ Fails file other
-    no_part_before (RepeatedCell l q) p = λ f. none (part.Repeated l q) (moved 11 m 2 m' (l ∷ q ∷ []) b (λ h. omega (arith, shift, h)) (λ h. omega (arith, shift, h)) p) f.1
+    no_part_before (RepeatedCell l q) p = λ f. none (part.Repeated l q) (moved 11 m 2 m' (l ∷ q ∷ []) b (λ h. omega (arith, shift, h))
+        (λ h. omega (arith, shift, h)) p) f.1
     no_part_before (EmptyPart k) p = none (part.EmptyPart k) (moved 12 m 3 m' (k ∷ []) b (λ h. omega (arith, shift, h)) (λ h. omega (arith, shift, h)) p)
-    no_part_before (NotLocallyClosed k x y z) p = λ f. none (part.Gap k x y z) (moved 13 m 4 m' (k ∷ x ∷ y ∷ z ∷ []) b (λ h. omega (arith, shift, h)) (λ h. omega (arith, shift, h)) p) f.1
+    no_part_before (NotLocallyClosed k x y z) p = λ f. none (part.Gap k x y z) (moved 13 m 4 m' (k ∷ x ∷ y ∷ z ∷ []) b (λ h. omega (arith, shift, h))
+        (λ h. omega (arith, shift, h)) p) f.1
     no_part_before NotJson p = clear.none NotJson (omega arith)
     no_part_before other p = clear.none other (omega arith)
 
   -- the first fault of parts whose cells are known is the first refusal
-  pub first_parts : ((l p : ℕ) → ¬ FailsAsParts file (part.Unknown l p)) → (error : PartError) → IsFirst parts.number parts.place (FailsAsParts file) error → (fault : FileFault) → part_error error ≡ Bad fault → IsFirstRefusal file fault
+  pub first_parts : ((l p : ℕ) → ¬ FailsAsParts file (part.Unknown l p)) → (error : PartError) → IsFirst parts.number parts.place (FailsAsParts file) error
+      → (fault : FileFault) → part_error error ≡ Bad fault → IsFirstRefusal file fault
   first_parts known (part.Unknown l p) first fault e = absurd (known l p first.holds)
   first_parts known (part.Repeated l p) first fault e =
       let same : RepeatedCell l p ≡ fault = cc in
@@ -211,7 +237,11 @@ module _ (file : File) (clear : IsClear file 11) (whole : file.field.is_hull ≡
       subst (IsFirstRefusal file) same (record { holds = first.holds; first = no_part_before 12 3 (k ∷ []) refl (omega arith) first.first })
   first_parts known (part.Gap k x y z) first fault e =
       let same : NotLocallyClosed k x y z ≡ fault = cc in
-      subst (IsFirstRefusal file) same (record { holds = (whole, first.holds); first = no_part_before 13 4 (k ∷ x ∷ y ∷ z ∷ []) refl (omega arith) first.first })
+      subst (IsFirstRefusal file) same (record {
+        holds = (whole, first.holds);
+        first = no_part_before 13 4 (k ∷ x ∷ y ∷ z ∷ []) refl (omega arith)
+            first.first;
+      })
   first_parts known part.NoMemory first fault e = absurd (no_memory first.holds)
     where
       no_memory : ¬ FailsAsParts file part.NoMemory
@@ -234,11 +264,13 @@ module _ (file : File) (clear : IsClear file 11) (hull : file.field.is_hull ≡ 
   of_repeated (RepeatedCell l p) e f = not_whole f.0
   of_repeated other e f = absurd (omega (arith, e))
 
-  of_empty : (Q : List ℕ → Type 0) → ((k : ℕ) → Q (k ∷ []) → ¬ Fails file (EmptyPart k)) → (other : FileFault) → number other ≡ 12 → Q (place other) → ¬ Fails file other
+  of_empty : (Q : List ℕ → Type 0) → ((k : ℕ) → Q (k ∷ []) → ¬ Fails file (EmptyPart k)) → (other : FileFault) → number other ≡ 12 → Q (place other)
+      → ¬ Fails file other
   of_empty Q none (EmptyPart k) e q = none k q
   of_empty Q none other e q = absurd (omega arith)
 
   -- the first part without cells is the first refusal
-  pub first_empty : (k : ℕ) → FailsAsParts file (part.EmptyPart k) → ((j : ℕ) → j < k → ¬ FailsAsParts file (part.EmptyPart j)) → IsFirstRefusal file (EmptyPart k)
+  pub first_empty : (k : ℕ) → FailsAsParts file (part.EmptyPart k) → ((j : ℕ) → j < k → ¬ FailsAsParts file (part.EmptyPart j))
+      → IsFirstRefusal file (EmptyPart k)
   first_empty k fails before = first-next number place (Fails file) 12 (clear-next number place (Fails file) 11 clear of_repeated) (EmptyPart k) refl fails
       (of_empty (λ a. Precedes a (k ∷ [])) (λ j p. elim p [ inl less ↦ before j less | inr both ↦ absurd both.1 ]))

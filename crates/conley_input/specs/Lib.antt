@@ -5,7 +5,6 @@ pub mod Listing
 pub mod RefusalOrder
 pub mod Refusals
 pub mod Told
-pub mod Places
 pub mod Problem
 pub mod Errors
 pub mod ProblemMeaning

@@ -1,6 +1,7 @@
 //! The complex of listed cells.
 
-ghost use Rattle.std.specs.Prelude.{◌≡◌, ◌≢◌, ◌≤◌, ◌<◌, ◌^◌, ℕ, All, IfOk, OnOk, IsErrOf, length, map, false};
+ghost use Rattle.std.specs.Prelude.{◌≡◌, ◌≢◌, ◌≤◌, ◌<◌, ◌^◌, All, IfOk, OnOk, IsErrOf, length, map};
+ghost use Rattle.conley_json.specs.Meaning.{texts};
 ghost use Rattle.conley_field.specs.AnyField.{arithmetic_of};
 ghost use Rattle.conley_lefschetz.specs.Listing.{bytes_of};
 ghost use Rattle.conley_lefschetz.specs.Fault.{IsFirstFault};
@@ -9,8 +10,8 @@ ghost use Rattle.conley_input.specs.Errors as spec;
 ghost use Rattle.conley_input.specs.File as file;
 ghost use Rattle.conley_input.specs.Limits.{most_dimension};
 ghost use Rattle.conley_input.specs.Listing as listed;
-ghost use Rattle.conley_input.specs.Listing.{IsComplexFor, dims_of};
-ghost use Rattle.conley_input.specs.Meaning.{texts, cells_of, complex_of};
+ghost use Rattle.conley_input.specs.Listing.{IsComplexFor};
+ghost use Rattle.conley_input.specs.Meaning.{listed_cells};
 ghost use Rattle.conley_input.specs.Refusals.{FailsIn, IsFirstIn};
 
 use crate::error::{FileFault, InputError};
@@ -21,9 +22,9 @@ use std::alloc::{AllocError, Global};
 
 /// The labels and the dimensions of cells.
 fn split(alloc: Global, cells: Vec<(String, u32)>) -> Result<(Vec<String>, Vec<u32>), AllocError>
-    ensures labels { IfOk result (λ pair. texts pair.0 ≡ map (λ cell. cell.0) (cells_of cells)) }
+    ensures labels { IfOk result (λ pair. texts pair.0 ≡ map (λ cell. cell.0) (listed_cells cells)) }
     ensures same { IfOk result (λ pair. length pair.1.items ≡ length pair.0.items) }
-    ensures dims { IfOk result (λ pair. pair.1.items ≡ map (λ cell. cell.1) (cells_of cells)) }
+    ensures dims { IfOk result (λ pair. pair.1.items ≡ map (λ cell. cell.1) (listed_cells cells)) }
 {
     let mut labels = Vec::new(alloc);
     let mut dims = Vec::new(alloc);
@@ -80,9 +81,19 @@ fn complex_of_cells(
     requires count { length labels.items ≡ length dims.now }
     requires dims { All (λ dim. dim ≤ most_dimension) dims.now }
     ensures field { IfOk result (λ c. c.0 ≡ field) }
-    ensures ok { IfOk result (λ c. IsComplexOf (arithmetic_of field) (record { labels = bytes_of labels.items; dims = dims.now; incidences = listed.with_scalars (arithmetic_of field) incidences.now }) c.1) }
+    ensures ok { IfOk result (λ c. IsComplexOf (arithmetic_of field) (record {
+      labels = bytes_of labels.items;
+      dims = dims.now;
+      incidences =
+          listed.with_scalars (arithmetic_of field) incidences.now;
+    }) c.1) }
     ensures err { (error : _) → IsErrOf result error → error ≢ ComplexError.NoMemory →
-        IsFirstFault (arithmetic_of field) (record { labels = bytes_of labels.items; dims = dims.now; incidences = listed.with_scalars (arithmetic_of field) incidences.now }) error }
+        IsFirstFault (arithmetic_of field) (record {
+          labels = bytes_of labels.items;
+          dims = dims.now;
+          incidences =
+              listed.with_scalars (arithmetic_of field) incidences.now;
+        }) error }
 {
     let dims = narrow(alloc, dims)?;
     let incidences = with_scalars(alloc, &field, incidences)?;
@@ -109,12 +120,13 @@ pub(crate) fn read_listed(
     incidences: &[(u32, u32, i64)],
 ) -> Result<Complex<AnyField>, InputError>
     requires count { length cells.items < 2 ^ 32 }
-    requires dims { All (λ dim. dim ≤ most_dimension) (map (λ cell. cell.1) (cells_of cells)) }
+    requires dims { All (λ dim. dim ≤ most_dimension) (map (λ cell. cell.1) (listed_cells cells)) }
     ensures field { IfOk result (λ c. c.0 ≡ field) }
     ensures laws { IfOk result (λ c. IsLayout (arithmetic_of field) c.1) }
-    ensures complex { IfOk result (λ c. IsComplexFor (arithmetic_of field) (file.lefschetz (cells_of cells) incidences.now) c.1) }
-    ensures accepted { OnOk result ((fault : _) → ¬ FailsIn (arithmetic_of field) (file.lefschetz (cells_of cells) incidences.now) fault) }
-    ensures err { (fault : _) → IsErrOf result (InputError.Bad fault) → IsFirstIn (arithmetic_of field) (file.lefschetz (cells_of cells) incidences.now) fault }
+    ensures complex { IfOk result (λ c. IsComplexFor (arithmetic_of field) (file.lefschetz (listed_cells cells) incidences.now) c.1) }
+    ensures accepted { OnOk result ((fault : _) → ¬ FailsIn (arithmetic_of field) (file.lefschetz (listed_cells cells) incidences.now) fault) }
+    ensures err { (fault : _) → IsErrOf result (InputError.Bad fault) → IsFirstIn (arithmetic_of field) (file.lefschetz (listed_cells cells) incidences.now)
+        fault }
 {
     let (labels, dims) = split(alloc, cells)?;
     if let Some(k) = first_bad_label(&labels) {

@@ -1,11 +1,10 @@
 //! The parts of a field: given whole, or the hull of the listed parts.
 
-ghost use Rattle.std.specs.Prelude.{◌≡◌, ◌<◌, ◌^◌, ℕ, [], true, false, length, slice_index_or, IfOk, OnOk, IsErrOf};
-ghost use Rattle.conley_walk.specs.Lists.{items_of, entries_of, ListedStep};
+ghost use Rattle.std.specs.Prelude.{◌≡◌, ◌<◌, ◌^◌, ℕ, true, false, length, IfOk, OnOk, IsErrOf};
+ghost use Rattle.conley_lists.specs.Lists.{items_of, entries_of, ListedStep};
 ghost use Rattle.conley_mvf.specs.Partition.{IsMultivectorField};
 ghost use Rattle.conley_input.specs.Errors as errors;
 ghost use Rattle.conley_input.specs.File as spec;
-ghost use Rattle.conley_input.specs.Places.{FindsFirstPlace};
 ghost use Rattle.conley_input.specs.Problem.{IsFieldOf, ArePartsFor};
 ghost use Rattle.conley_input.specs.Refusals.{Fails, IsFirstRefusal, IsClear};
 
@@ -13,7 +12,7 @@ use crate::error::{FileFault, InputError};
 use conley_field::AnyField;
 use conley_hull::{HullError, hull};
 use conley_lefschetz::Complex;
-use conley_mvf::{PartError, Partition};
+use conley_mvf::{PartError, Partition, first_empty};
 use std::alloc::Global;
 
 /// Refuses lists that are too long to be numbered together. No memory holds such ones.
@@ -46,18 +45,6 @@ fn part_error(error: PartError) -> InputError
         PartError::Gap(k, x, y, z) => InputError::Bad(FileFault::NotLocallyClosed(k, x, y, z)),
         PartError::NoMemory => InputError::NoMemory,
     }
-}
-
-/// The first list without cells.
-fn first_empty(lists: &[Vec<u32>]) -> Option<usize>
-    ensures { FindsFirstPlace (length lists.now) (λ k. slice_index_or (items_of lists.now) k [] ≡ []) result }
-{
-    for (k, list) in lists.iter().enumerate() {
-        if list.is_empty() {
-            return Some(k);
-        }
-    }
-    None
 }
 
 /// The partition of the cells into the lists, or their first refusal.

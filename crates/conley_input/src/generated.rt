@@ -4,7 +4,7 @@ ghost use Rattle.std.specs.Prelude.{◌≡◌, ◌<◌, ◌^◌, IfOk, OnOk, IsE
 ghost use Rattle.conley_field.specs.AnyField.{arithmetic_of};
 ghost use Rattle.conley_lefschetz.specs.Listing.{bytes_of};
 ghost use Rattle.conley_lefschetz.specs.Complex.{IsLayout};
-ghost use Rattle.conley_walk.specs.Lists.{items_of};
+ghost use Rattle.conley_lists.specs.Lists.{items_of};
 ghost use Rattle.conley_input.specs.Errors as spec;
 ghost use Rattle.conley_input.specs.File as file;
 ghost use Rattle.conley_input.specs.Listing.{IsComplexFor};
@@ -56,7 +56,8 @@ pub(crate) fn read_simplices(
     ensures laws { IfOk result (λ c. IsLayout (arithmetic_of field) c.1) }
     ensures complex { IfOk result (λ c. IsComplexFor (arithmetic_of field) (file.simplicial (bytes_of vertices.now) (items_of simplices.now)) c.1) }
     ensures accepted { OnOk result ((fault : _) → ¬ FailsIn (arithmetic_of field) (file.simplicial (bytes_of vertices.now) (items_of simplices.now)) fault) }
-    ensures err { (fault : _) → IsErrOf result (InputError.Bad fault) → IsFirstIn (arithmetic_of field) (file.simplicial (bytes_of vertices.now) (items_of simplices.now)) fault }
+    ensures err { (fault : _) → IsErrOf result (InputError.Bad fault) → IsFirstIn (arithmetic_of field)
+        (file.simplicial (bytes_of vertices.now) (items_of simplices.now)) fault }
 {
     match simplicial(alloc, field, vertices, simplices, MOST_GENERATED) {
         Ok(complex) => {

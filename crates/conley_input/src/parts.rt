@@ -1,11 +1,12 @@
 //! The listed parts and the named sets of a file, by the numbers of their cells.
 
 ghost use Rattle.std.specs.Prelude.{◌≡◌, ◌<◌, ◌≤◌, ◌++◌, ◌∷◌, ℕ, [], Some, None, All, map, take, drop, length, slice_index_or, IfOk, IfSome, OnOk, IsErrOf};
-ghost use Rattle.conley_walk.specs.Lists.{items_of, ListedStep};
+ghost use Rattle.conley_lefschetz.specs.Listing.{bytes_of};
+ghost use Rattle.conley_json.specs.Meaning.{texts};
+ghost use Rattle.conley_first.specs.Places.{FindsFirst, FindsFirstPlace};
+ghost use Rattle.conley_lists.specs.Lists.{items_of, ListedStep};
 ghost use Rattle.conley_input.specs.File as spec;
-ghost use Rattle.conley_input.specs.Meaning.{texts, bytes_of};
 ghost use Rattle.conley_input.specs.Listing.{cell_of, numbers_of, cells_in};
-ghost use Rattle.conley_input.specs.Places.{FindsFirst, FindsFirstPlace};
 ghost use Rattle.conley_input.specs.Problem.{IsListedAs};
 ghost use Rattle.conley_input.specs.Refusals.{IsUnknown, IsFirstRefusal, IsClear};
 
@@ -38,10 +39,12 @@ fn number_part(
     part: &[String],
 ) -> Result<Vec<u32>, InputError>
     ensures ok { IfOk result (λ cells. cells.items ≡ numbers_of complex.now.1.labels (length complex.now.1.labels) (bytes_of part.now)) }
-    ensures known { IfOk result (λ _. FindsFirstPlace (length part.now) (λ k. cell_of complex.now.1.labels (slice_index_or (bytes_of part.now) k []) ≡ None) None) }
+    ensures known { IfOk result (λ _. FindsFirstPlace (length part.now) (λ k. cell_of complex.now.1.labels (slice_index_or (bytes_of part.now) k []) ≡ None)
+        None) }
     ensures within { IfOk result (λ cells. All (λ x. x < length complex.now.1.dims) cells.items) }
     ensures err { (fault : _) → IsErrOf result (InputError.Bad fault) →
-        (place : ℕ) × (fault ≡ FileFault.UnknownCell list place) × FindsFirstPlace (length part.now) (λ k. cell_of complex.now.1.labels (slice_index_or (bytes_of part.now) k []) ≡ None) (Some place) }
+        (place : ℕ) × (fault ≡ FileFault.UnknownCell list place) × FindsFirstPlace (length part.now)
+        (λ k. cell_of complex.now.1.labels (slice_index_or (bytes_of part.now) k []) ≡ None) (Some place) }
 {
     let mut cells = Vec::new(alloc);
     for (place, label) in part.iter().enumerate() {
@@ -67,7 +70,8 @@ fn number_parts(
     ensures known { IfOk result (λ _. FindsFirst (IsUnknown complex.now.1.labels (map texts parts.now)) None) }
     ensures within { IfOk result (λ lists. (k x : ℕ) → ListedStep (items_of lists.items) k x → x < length complex.now.1.dims) }
     ensures err { (fault : _) → IsErrOf result (InputError.Bad fault) →
-        (list : ℕ) × (place : ℕ) × (fault ≡ FileFault.UnknownCell list place) × FindsFirst (IsUnknown complex.now.1.labels (map texts parts.now)) (Some (list, place)) }
+        (list : ℕ) × (place : ℕ) × (fault ≡ FileFault.UnknownCell list place) × FindsFirst (IsUnknown complex.now.1.labels (map texts parts.now))
+        (Some (list, place)) }
 {
     let mut lists = Vec::new(alloc);
     for (list, part) in parts.iter().enumerate() {

@@ -1,10 +1,10 @@
 //! The named sets of a file.
 
 ghost use Rattle.std.specs.Prelude.{◌≡◌, IfOk, length, map, string_bytes};
-ghost use Rattle.conley_walk.specs.Lists.{items_of, IsOrderedCopy};
-ghost use Rattle.conley_input.specs.Meaning.{bytes_of};
+ghost use Rattle.conley_lefschetz.specs.Listing.{bytes_of};
+ghost use Rattle.conley_lists.specs.Lists.{items_of, IsOrderedCopy};
 
-use conley_walk::ordered;
+use conley_lists::ordered;
 use std::alloc::{AllocError, Global};
 
 /// Cells with a name: ascending, each once.

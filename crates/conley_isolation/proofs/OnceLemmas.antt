@@ -2,7 +2,8 @@
 use Rattle.std.proofs.Common.{◌≡◌, ℕ, Bool, true, false, List, refl, sym, ap, ◌∙◌}
 use Rattle.std.specs.Prelude.{Option, Some, None, IfSome, IfNone}
 use Rattle.std.proofs.lemmas.Bool.{true≢false}
-use Rattle.conley_walk.proofs.AscendingLemmas.{same_numbers}
+use Rattle.conley_lists.proofs.AscendingLemmas.{same_numbers}
+use Rattle.conley_lists.proofs.TestLemmas.{same_tests}
 use Rattle.conley_field.specs.Arithmetic.{Arithmetic}
 use Rattle.conley_lefschetz.specs.Complex.{Layout}
 use Rattle.conley_lefschetz.specs.Conley.{AreConleyNumbers, NumbersAreOne}
@@ -14,12 +15,6 @@ invariant_once c part_of set a b first second =
       (λ at. (second.invariant x).1 ((first.invariant x).0 at)),
       (λ at. (first.invariant x).1 ((second.invariant x).0 at)),
     ))
-
--- tests that say the same
-told_once : (a b : Bool) → (a ≡ true → b ≡ true) → (b ≡ true → a ≡ true) → a ≡ b
-told_once true b there back = sym (there refl)
-told_once false true there back = back refl
-told_once false false there back = refl
 
 -- an index is told by one test, and then it is one
 index_once : {F : Arithmetic} (c : Layout) (set : List ℕ) → NumbersAreOne F c → (t : Bool) (a b : Option (List ℕ)) →
@@ -33,6 +28,8 @@ index_once c set one t (Some m) (Some n) a_some a_none b_some b_none = ap Some (
 pub report_once : {F : Arithmetic} (c : Layout) → NumbersAreOne F c → ReportIsOne F c
 report_once {F} c one part_of set a b first second =
     let invariant : a.invariant ≡ b.invariant = invariant_once c part_of set a.invariant b.invariant first.invariant_part second.invariant_part in
-    let isolated : a.isolated ≡ b.isolated = told_once a.isolated b.isolated (λ t. second.isolation.1 (first.isolation.0 t)) (λ t. first.isolation.1 (second.isolation.0 t)) in
-    let index : a.index ≡ b.index = index_once c set one a.isolated a.index b.index first.numbers first.none (rw isolated second.numbers) (rw isolated second.none) in
+    let isolated : a.isolated ≡ b.isolated = same_tests a.isolated b.isolated (λ t. second.isolation.1 (first.isolation.0 t))
+    (λ t. first.isolation.1 (second.isolation.0 t)) in
+    let index : a.index ≡ b.index = index_once c set one a.isolated a.index b.index first.numbers first.none (rw isolated second.numbers)
+    (rw isolated second.none) in
     λ i. record { invariant = invariant i; isolated = isolated i; index = index i }

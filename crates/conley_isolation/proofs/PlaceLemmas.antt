@@ -6,7 +6,7 @@ use Rattle.std.proofs.Math.Seq.{get_or-append_seam}
 use Rattle.std.proofs.lemmas.Bool.{cases_eq, cases_order}
 use Rattle.std.proofs.lemmas.List.{get_or_append_left, get_or_default}
 use Rattle.std.proofs.lemmas.List.Elements.{Contains-append_left, Contains-get_or, Contains-push, Contains-push_cases}
-use Rattle.conley_walk.proofs.ListLemmas.{rises}
+use Rattle.conley_lists.proofs.ListLemmas.{rises}
 use Rattle.conley_mvf.specs.Partition.{IsPartNumber}
 use Rattle.conley_isolation.specs.Making.{HaveFirsts, HasFirstsSoFar}
 
@@ -20,7 +20,8 @@ one_place xs up i j li lj e = elim (cases_order i j) [
 -- one place more
 module _ (parts : List ℕ) (n : ℕ) (first first' firsts : List ℕ) (lt : n < length parts) (so_far : HasFirstsSoFar parts n first firsts)
     (width : length first' ≡ length first) (in_row : slice_index parts n < length first)
-    (here : ((slice_index first (slice_index parts n) ≡ length parts) × (slice_index first' (slice_index parts n) ≡ n)) ⊎ ((slice_index first (slice_index parts n) ≢ length parts) × (slice_index first' (slice_index parts n) ≡ slice_index first (slice_index parts n))))
+    (here : ((slice_index first (slice_index parts n) ≡ length parts) × (slice_index first' (slice_index parts n) ≡ n))
+    ⊎ ((slice_index first (slice_index parts n) ≢ length parts) × (slice_index first' (slice_index parts n) ≡ slice_index first (slice_index parts n))))
     (others : (p : ℕ) → p ≢ slice_index parts n → slice_index first' p ≡ slice_index first p) where
   -- the first place of the part
   at_part : (slice_index first' (slice_index parts n) ≤ n) × (slice_index parts (slice_index first' (slice_index parts n)) ≡ slice_index parts n)
@@ -49,13 +50,15 @@ module _ (parts : List ℕ) (n : ℕ) (first first' firsts : List ℕ) (lt : n <
   firsts-more q is = record {
     count = omega (arith, length-append firsts (q ∷ []), so_far.count);
     told = λ i li. elim (cases_eq i n) [
-      | inl e ↦ ap (slice_index (firsts ++ q ∷ [])) (e ∙ sym so_far.count) ∙ get_or-append_seam firsts q [] 0 ∙ is ∙ ap (λ k. slice_index first' (slice_index parts k)) (sym e)
+      | inl e ↦ ap (slice_index (firsts ++ q ∷ [])) (e ∙ sym so_far.count) ∙ get_or-append_seam firsts q [] 0 ∙ is
+          ∙ ap (λ k. slice_index first' (slice_index parts k)) (sym e)
       | inr ne ↦
           let less : i < n = omega arith in
           get_or_append_left firsts (q ∷ []) 0 i (omega (arith, so_far.count)) ∙ so_far.told i less ∙ sym (stays i less)
     ];
     known = λ i li. elim (cases_eq i n) [
-      | inl e ↦ subst (λ k. (slice_index first' (slice_index parts k) ≤ k) × (slice_index parts (slice_index first' (slice_index parts k)) ≡ slice_index parts k)) (sym e) at_part
+      | inl e ↦ subst (λ k. (slice_index first' (slice_index parts k) ≤ k) × (slice_index parts (slice_index first' (slice_index parts k)) ≡ slice_index parts
+          k)) (sym e) at_part
       | inr ne ↦
           let less : i < n = omega arith in
           let k = so_far.known i less in
@@ -81,7 +84,8 @@ firsts-all parts n first firsts all so_far = record {
 }
 
 -- the places of the cells of a list so far, one cell more
-pub places-more : (set cells : List ℕ) (n : ℕ) (places : List ℕ) (place : ℕ) → IsStrictlyIncreasing set → place < length set → slice_index set place ≡ slice_index cells n →
+pub places-more : (set cells : List ℕ) (n : ℕ) (places : List ℕ) (place : ℕ) → IsStrictlyIncreasing set → place < length set
+    → slice_index set place ≡ slice_index cells n →
     ((i : ℕ) → Contains places i ↔ ((i < length set) × ((k : ℕ) × (k < n) × (slice_index cells k ≡ slice_index set i)))) →
     (i : ℕ) → Contains (places ++ place ∷ []) i ↔ ((i < length set) × ((k : ℕ) × (k < n + 1) × (slice_index cells k ≡ slice_index set i)))
 places-more set cells n places place up lt is so_far i = (

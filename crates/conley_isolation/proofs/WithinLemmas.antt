@@ -5,16 +5,17 @@ use Rattle.std.specs.List.Sorted.{IsStrictlyIncreasing}
 use Rattle.std.proofs.lemmas.Bool.{cases_eq}
 use Rattle.std.proofs.lemmas.List.Elements.{Contains-get_or}
 use Rattle.conley_walk.specs.Walk.{Walk, Reaches}
-use Rattle.conley_walk.specs.Lists.{items_of, ListedStep, IsDigraph, PutsUnder}
+use Rattle.conley_lists.specs.Lists.{items_of, ListedStep, IsDigraph, PutsUnder}
 use Rattle.conley_walk.proofs.WalkLemmas.{reaches_itself, reaches_on, reaches_by_step, reaches_least}
-use Rattle.conley_walk.proofs.ListLemmas.{place_of, step_begins, length-items_of, row_at_end, row_before}
+use Rattle.conley_lists.proofs.ListLemmas.{place_of, step_begins, length-items_of, row_at_end, row_before}
 use Rattle.conley_faces.specs.Face.{IsFace, IsLocallyClosed}
 use Rattle.conley_faces.proofs.GapLemmas.{contains_cases}
 use Rattle.conley_isolation.specs.Making.{StepWithin, IsUnder, HasFaceSteps, HaveFirsts, LinksFirsts, HasSteps}
 use Rattle.conley_isolation.proofs.PlaceLemmas.{one_place}
 
 -- one place more is linked to the first of its part
-pub links-more : (firsts : List ℕ) (n : ℕ) (old so mid new : List (List ℕ)) → LinksFirsts firsts n old so → PutsUnder so mid n (slice_index firsts n) → PutsUnder mid new (slice_index firsts n) n → LinksFirsts firsts (n + 1) old new
+pub links-more : (firsts : List ℕ) (n : ℕ) (old so mid new : List (List ℕ)) → LinksFirsts firsts n old so → PutsUnder so mid n (slice_index firsts n)
+    → PutsUnder mid new (slice_index firsts n) n → LinksFirsts firsts (n + 1) old new
 links-more firsts n old so mid new links a b = record {
   count = b.count ∙ a.count ∙ links.count;
   kept = λ i j s. up i j (links.kept i j s);
@@ -42,16 +43,27 @@ links-more firsts n old so mid new links a b = record {
     up i j s = (b.steps i j).1 (inl ((a.steps i j).1 (inl s)))
 
 -- the steps down from one cell more
-pub face_steps-more : (direct : Bool) (faces : List (List ℕ)) (set : List ℕ) (n : ℕ) (rows : List (Vec ℕ Global)) (row : Vec ℕ Global) → HasFaceSteps direct faces set n (items_of rows) →
-    ((j : ℕ) → Contains row.items j ↔ ((j < length set) × IsUnder direct faces (slice_index set n) (slice_index set j))) → HasFaceSteps direct faces set (n + 1) (items_of (rows ++ row ∷ []))
+pub face_steps-more : (direct : Bool) (faces : List (List ℕ)) (set : List ℕ) (n : ℕ) (rows : List (Vec ℕ Global)) (row : Vec ℕ Global)
+    → HasFaceSteps direct faces set n (items_of rows) →
+    ((j : ℕ) → Contains row.items j ↔ ((j < length set) × IsUnder direct faces (slice_index set n) (slice_index set j)))
+    → HasFaceSteps direct faces set (n + 1) (items_of (rows ++ row ∷ []))
 face_steps-more direct faces set n rows row so_far has = record {
   count = length-items_of (rows ++ row ∷ []) ∙ length-append rows (row ∷ []) ∙ omega (arith, length-items_of rows, so_far.count);
   steps = λ i j. elim (cases_eq i n) [
-    | inl e ↦ subst (λ k. ListedStep (items_of (rows ++ row ∷ [])) k j ↔ ((k < n + 1) × (j < length set) × IsUnder direct faces (slice_index set k) (slice_index set j))) (sym e)
+    | inl e ↦ subst (λ k. ListedStep (items_of (rows ++ row ∷ [])) k j ↔ ((k < n + 1) × (j < length set)
+        × IsUnder direct faces (slice_index set k) (slice_index set j))) (sym e)
         (rw (row_at_end rows row n n so_far.count refl) ((λ c. let w = (has j).0 c in (omega arith, w.0, w.1)), (λ w. (has j).1 (w.1, w.2))))
     | inr ne ↦ (
       (λ s.
-          let less : i < n = omega (arith, ne, step_begins (items_of (rows ++ row ∷ [])) i j s, length-items_of (rows ++ row ∷ []), length-append rows (row ∷ []), length-items_of rows, so_far.count) in
+          let less : i < n = omega (
+            arith,
+            ne,
+            step_begins (items_of (rows ++ row ∷ [])) i j s,
+            length-items_of (rows ++ row ∷ []),
+            length-append rows (row ∷ []),
+            length-items_of rows,
+            so_far.count,
+          ) in
           let w = (so_far.steps i j).0 (subst (λ (l : List ℕ). Contains l j) (row_before rows row i n so_far.count less) s) in
           (omega arith, w.1, w.2)),
       (λ w.
@@ -64,7 +76,8 @@ face_steps-more direct faces set n rows row so_far has = record {
 module _ (faces : List (List ℕ)) (set : List ℕ) (up : IsStrictlyIncreasing set) (digraph : IsDigraph faces) where
   -- in a set without a gap the cells directly under each cell lead to its faces
   down_by_direct : IsLocallyClosed faces set → (lists : List (List ℕ)) → HasFaceSteps true faces set (length set) lists →
-      (i j : ℕ) (w : List ℕ) → i < length set → j < length set → Walk (ListedStep faces) (slice_index set i) w (slice_index set j) → Reaches (ListedStep lists) i j
+      (i j : ℕ) (w : List ℕ) → i < length set → j < length set → Walk (ListedStep faces) (slice_index set i) w (slice_index set j)
+      → Reaches (ListedStep lists) i j
   down_by_direct closed lists has i j [] li lj a = subst (Reaches (ListedStep lists) i) (one_place set up i j li lj a) (reaches_itself i)
   down_by_direct closed lists has i j (z ∷ w) li lj a = elim (contains_cases set z) [
     | inl at ↦
@@ -92,7 +105,8 @@ module _ (faces : List (List ℕ)) (set : List ℕ) (up : IsStrictlyIncreasing s
 
   module _ (part_of parts firsts : List ℕ) (cells : (x : ℕ) → Contains set x → x < length part_of) (count : length parts ≡ length set)
       (part : (i : ℕ) → i < length set → slice_index parts i ≡ slice_index part_of (slice_index set i)) (have : HaveFirsts parts firsts)
-      (direct : Bool) (closed : direct ≡ true → IsLocallyClosed faces set) (lists new : List (List ℕ)) (has : HasFaceSteps direct faces set (length set) lists) (links : LinksFirsts firsts (length set) lists new) where
+      (direct : Bool) (closed : direct ≡ true → IsLocallyClosed faces set) (lists new : List (List ℕ)) (has : HasFaceSteps direct faces set (length set) lists)
+      (links : LinksFirsts firsts (length set) lists new) where
     here : (i : ℕ) → i < length set → Contains set (slice_index set i)
     here i lt = Contains-get_or set i 0 lt
 
@@ -100,7 +114,8 @@ module _ (faces : List (List ℕ)) (set : List ℕ) (up : IsStrictlyIncreasing s
     before i lt = omega (arith, have.before i (omega (arith, count)))
 
     -- places of one part
-    share : (i j : ℕ) → i < length set → j < length set → slice_index parts i ≡ slice_index parts j → StepWithin faces part_of set (slice_index set i) (slice_index set j)
+    share : (i j : ℕ) → i < length set → j < length set → slice_index parts i ≡ slice_index parts j
+        → StepWithin faces part_of set (slice_index set i) (slice_index set j)
     share i j li lj e = record {
       from = here i li;
       to = here j lj;
@@ -125,11 +140,14 @@ module _ (faces : List (List ℕ)) (set : List ℕ) (up : IsStrictlyIncreasing s
     -- a step within the set is a walk
     one_step : (i j : ℕ) → i < length set → j < length set → StepWithin faces part_of set (slice_index set i) (slice_index set j) → Reaches (ListedStep new) i j
     one_step i j li lj s = elim s.step [
-      | inl f ↦ reaches_least (λ v. Reaches (ListedStep new) i v) (λ a b t h. reaches_on h (reaches_by_step {Step = ListedStep new} {x = a} {y = b} (links.kept a b t))) (down direct closed lists has i j li lj f) (reaches_itself i)
+      | inl f ↦ reaches_least (λ v. Reaches (ListedStep new) i v) (λ a b t h. reaches_on h
+          (reaches_by_step {Step = ListedStep new} {x = a} {y = b} (links.kept a b t))) (down direct closed lists has i j li lj f) (reaches_itself i)
       | inr shared ↦
-          let same : slice_index firsts i ≡ slice_index firsts j = have.same i j (omega (arith, count)) (omega (arith, count)) (part i li ∙ sym shared.1.1 ∙ sym (part j lj)) in
+          let same : slice_index firsts i ≡ slice_index firsts j = have.same i j (omega (arith, count)) (omega (arith, count))
+          (part i li ∙ sym shared.1.1 ∙ sym (part j lj)) in
           let first : ListedStep new i (slice_index firsts j) = subst (ListedStep new i) same (links.back i li) in
-          reaches_on (reaches_by_step {Step = ListedStep new} {x = i} {y = slice_index firsts j} first) (reaches_by_step {Step = ListedStep new} {x = slice_index firsts j} {y = j} (links.there j lj))
+          reaches_on (reaches_by_step {Step = ListedStep new} {x = i} {y = slice_index firsts j} first)
+          (reaches_by_step {Step = ListedStep new} {x = slice_index firsts j} {y = j} (links.there j lj))
     ]
 
     pub has_steps : HasSteps faces part_of set new
@@ -139,7 +157,8 @@ module _ (faces : List (List ℕ)) (set : List ℕ) (up : IsStrictlyIncreasing s
       reach = λ i j li lj r.
           let at = reaches_least (λ v. (k : ℕ) × (k < length set) × (slice_index set k ≡ v) × Reaches (ListedStep new) i k) (λ a b s h.
           let p = place_of set b s.to in
-          let step : StepWithin faces part_of set (slice_index set h.0) (slice_index set p.0) = subst (λ v. StepWithin faces part_of set (slice_index set h.0) v) (sym p.2) (subst (λ v. StepWithin faces part_of set v b) (sym h.2) s) in
+          let step : StepWithin faces part_of set (slice_index set h.0) (slice_index set p.0) =
+          subst (λ v. StepWithin faces part_of set (slice_index set h.0) v) (sym p.2) (subst (λ v. StepWithin faces part_of set v b) (sym h.2) s) in
           (p.0, p.1, p.2, reaches_on h.3 (one_step h.0 p.0 h.1 p.1 step))) r (i, li, refl, reaches_itself i) in
           subst (Reaches (ListedStep new) i) (one_place set up at.0 j at.1 lj at.2) at.3;
     }

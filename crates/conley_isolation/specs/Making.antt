@@ -10,8 +10,9 @@
 --     Crosses lists parts i                a step leads to another part, and a walk leads back
 --     IsStart regular parts firsts lists i    such a place, or the first place of a part that isn't regular
 use Rattle.std.specs.Prelude.{◌≡◌, ◌≢◌, ◌⊎◌, ◌↔◌, ◌<◌, ◌≤◌, ℕ, Bool, true, false, List, Contains, length, slice_index}
-use Rattle.conley_walk.specs.Walk.{Reaches}
-use Rattle.conley_walk.specs.Lists.{ListedStep}
+use Rattle.conley_walk.specs.Walk.{Reaches, ReachesIn}
+use Rattle.conley_lists.specs.Lists.{ListedStep}
+use Rattle.conley_lists.specs.Gathered.{AreToldBy}
 use Rattle.conley_faces.specs.Face.{IsFace}
 use Rattle.conley_transitions.specs.Step.{Step}
 
@@ -37,8 +38,9 @@ pub record HaveFirsts (parts firsts : List ℕ) : Type 0 where
 -- a part without a place so far has the number of all places
 pub record HasFirstsSoFar (parts : List ℕ) (n : ℕ) (first firsts : List ℕ) : Type 0 where
   pub count : length firsts ≡ n
-  pub told : (i : ℕ) → i < n → slice_index firsts i ≡ slice_index first (slice_index parts i)
-  pub known : (i : ℕ) → i < n → (slice_index first (slice_index parts i) ≤ i) × (slice_index parts (slice_index first (slice_index parts i)) ≡ slice_index parts i)
+  pub told : AreToldBy first parts n firsts
+  pub known : (i : ℕ) → i < n → (slice_index first (slice_index parts i) ≤ i) × (slice_index parts (slice_index first (slice_index parts i)) ≡ slice_index
+      parts i)
   pub met : (p : ℕ) → p < length first → (slice_index first p ≡ length parts) ⊎ ((i : ℕ) × (i < n) × (slice_index parts i ≡ p))
 
 pub record LinksFirsts (firsts : List ℕ) (n : ℕ) (old new : List (List ℕ)) : Type 0 where
@@ -51,7 +53,7 @@ pub record LinksFirsts (firsts : List ℕ) (n : ℕ) (old new : List (List ℕ))
 pub record HasSteps (faces : List (List ℕ)) (part_of set : List ℕ) (lists : List (List ℕ)) : Type 0 where
   pub count : length lists ≡ length set
   pub sound : (i j : ℕ) → ListedStep lists i j → (j < length set) × StepWithin faces part_of set (slice_index set i) (slice_index set j)
-  pub reach : (i j : ℕ) → i < length set → j < length set → Reaches (StepWithin faces part_of set) (slice_index set i) (slice_index set j) → Reaches (ListedStep lists) i j
+  pub reach : (i j : ℕ) → i < length set → j < length set → Reaches (StepWithin faces part_of set) (slice_index set i) (slice_index set j) → ReachesIn lists i j
 
 pub record IsWithin (faces : List (List ℕ)) (part_of set parts firsts : List ℕ) (lists : List (List ℕ)) : Type 0 where
   pub count : length parts ≡ length set
@@ -60,7 +62,7 @@ pub record IsWithin (faces : List (List ℕ)) (part_of set parts firsts : List �
   pub steps : HasSteps faces part_of set lists
 
 abbrev pub Crosses : List (List ℕ) → List ℕ → ℕ → Type 0
-Crosses lists parts i = (j : ℕ) × ListedStep lists i j × Reaches (ListedStep lists) j i × (slice_index parts j ≢ slice_index parts i)
+Crosses lists parts i = (j : ℕ) × ListedStep lists i j × ReachesIn lists j i × (slice_index parts j ≢ slice_index parts i)
 
 abbrev pub IsStart : (ℕ → Type 0) → List ℕ → List ℕ → List (List ℕ) → ℕ → Type 0
 IsStart regular parts firsts lists i = Crosses lists parts i ⊎ ((i < length parts) × (slice_index firsts i ≡ i) × ¬ regular (slice_index parts i))

@@ -11,15 +11,15 @@ use Rattle.conley_faces.specs.Face.{IsCellList}
 use Rattle.conley_lefschetz.specs.Complex.{Layout}
 use Rattle.conley_lefschetz.specs.Conley.{AreConleyNumbers}
 use Rattle.conley_transitions.specs.Lasso.{IsInInvariantPart, IsIsolatedInvariant}
-use Rattle.conley_graph.specs.Decomposition.{field_of}
+use Rattle.conley_graph.specs.Decomposition.{flow_of}
 use Rattle.conley_isolation.specs.declared.set_report.SetReport.{SetReport}
 
 pub record IsInvariantPart (F : Arithmetic) (c : Layout) (part_of set cells : List ℕ) : Type 0 where
   pub list : IsCellList c.faces cells
-  pub invariant : (x : ℕ) → Contains cells x ↔ IsInInvariantPart (field_of F c part_of) set x
+  pub invariant : (x : ℕ) → Contains cells x ↔ IsInInvariantPart (flow_of F c part_of) set x
 
 abbrev pub IsIsolated : Arithmetic → Layout → List ℕ → List ℕ → Type 0
-IsIsolated F c part_of set = IsIsolatedInvariant (field_of F c part_of) set
+IsIsolated F c part_of set = IsIsolatedInvariant (flow_of F c part_of) set
 
 pub record Findings : Type 0 where
   pub invariant : List ℕ

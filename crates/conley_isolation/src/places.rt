@@ -1,24 +1,13 @@
 //! The cells of a set by their places in it.
 
-ghost use Rattle.std.specs.Prelude.{◌≡◌, ◌↔◌, ◌<◌, ◌^◌, ℕ, All, Contains, IfOk, IfSome, IfNone, length, slice_index};
+ghost use Rattle.std.specs.Prelude.{◌≡◌, ◌↔◌, ◌<◌, ◌^◌, ℕ, All, Contains, IfOk, length, slice_index};
 ghost use Rattle.std.specs.List.Sorted.{IsStrictlyIncreasing};
 ghost use Rattle.conley_isolation.specs.Making.{HaveFirsts};
 
 use crate::NoMemory;
+use conley_lists::place_of;
 use conley_mvf::Partition;
 use std::alloc::Global;
-
-/// Where a cell stands in the set.
-fn place_of(set: &[u32], cell: u32) -> Option<usize>
-    requires { IsStrictlyIncreasing set.now }
-    ensures some { IfSome result (λ i. (i < length set.now) × (slice_index set.now i ≡ cell)) }
-    ensures none { IfNone result (¬ Contains set.now cell) }
-{
-    match set.binary_search(&cell) {
-        Ok(place) => Some(place),
-        Err(_) => None,
-    }
-}
 
 /// The places in the set of those cells that are in it.
 pub(crate) fn places_in(alloc: Global, cells: &[u32], set: &[u32]) -> Result<Vec<u32>, NoMemory>

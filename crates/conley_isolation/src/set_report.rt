@@ -2,7 +2,7 @@
 
 ghost use Rattle.std.specs.Prelude.{◌≡◌, ◌↔◌, ◌<◌, ℕ, All, Contains, IfOk, IsTrue, true, length, slice_index};
 ghost use Rattle.std.specs.List.Sorted.{IsStrictlyIncreasing};
-ghost use Rattle.conley_walk.specs.Lists.{items_of, IsMarked};
+ghost use Rattle.conley_lists.specs.Lists.{items_of, IsMarked};
 ghost use Rattle.conley_faces.specs.Face.{IsCellList, IsLocallyClosed};
 ghost use Rattle.conley_faces.specs.Closures.{IsPart};
 ghost use Rattle.conley_mvf.specs.Partition.{IsMultivectorField, ShareAPart};
@@ -16,8 +16,9 @@ use conley_digraph::turned_round;
 use conley_field::Field;
 use conley_homology::numbers;
 use conley_lefschetz::Complex;
+use conley_lists::stands_in;
 use conley_mvf::Partition;
-use conley_walk::{reached_from, stands_in};
+use conley_walk::reached_from;
 use std::alloc::Global;
 
 /// What is told of a set of cells.
@@ -36,7 +37,8 @@ fn marked(alloc: Global, set: &[u32], row: &[bool], other: &[bool]) -> Result<Ve
     requires set { IsStrictlyIncreasing set.now }
     requires row { length row.now ≡ length set.now }
     requires other { length other.now ≡ length set.now }
-    ensures { IfOk result (λ part. IsPart (λ x. (i : ℕ) × (i < length set.now) × (slice_index set.now i ≡ x) × IsMarked row.now i × IsMarked other.now i) set.now part.items) }
+    ensures { IfOk result (λ part. IsPart (λ x. (i : ℕ) × (i < length set.now) × (slice_index set.now i ≡ x) × IsMarked row.now i × IsMarked other.now i)
+        set.now part.items) }
 {
     let mut part = Vec::new(alloc);
     for (i, x) in set.iter().enumerate() {
@@ -60,7 +62,7 @@ pub fn invariant_part<F: Field>(
     ensures { IfOk result (λ cells. IsInvariantPart (F.arithmetic complex.now.0) complex.now.1 partition.now set.now cells.items) }
 {
     let faces = complex.faces();
-    let _count = faces.count();
+    let _order = faces.count();
     let within = within_set(alloc, faces, partition, set)?;
     let starts = starts(alloc, complex, partition, set, &within)?;
     let forward = reached_from(alloc, &within.steps, &starts)?;
@@ -115,7 +117,7 @@ fn is_isolated<F: Field>(
     ensures closed { result ≡ Ok true → IsLocallyClosed complex.now.1.faces set.now }
 {
     let faces = complex.faces();
-    let _count = faces.count();
+    let _order = faces.count();
     if !has_all(invariant, set) {
         return Ok(false);
     }

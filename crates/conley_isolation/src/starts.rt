@@ -1,11 +1,11 @@
 //! Places on essential closed walks within a set, at least one of each class that counts there.
 
 ghost use Rattle.std.specs.Prelude.{◌≡◌, ◌≢◌, ◌⊎◌, ◌↔◌, ◌<◌, ◌^◌, ℕ, All, Contains, OnOk, IfOk, IsTrue, true, false, length, slice_index};
-ghost use Rattle.conley_walk.specs.Lists.{items_of, IsDigraph};
+ghost use Rattle.conley_lists.specs.Lists.{items_of, IsDigraph};
 ghost use Rattle.conley_faces.specs.Face.{IsCellList};
 ghost use Rattle.conley_mvf.specs.Partition.{IsPartNumber, IsMultivectorField};
-ghost use Rattle.conley_transitions.specs.Field.{IsCalledRegular};
-ghost use Rattle.conley_graph.specs.Decomposition.{field_of};
+ghost use Rattle.conley_transitions.specs.Flow.{IsCalledRegular};
+ghost use Rattle.conley_graph.specs.Decomposition.{flow_of};
 ghost use Rattle.conley_isolation.specs.Making.{Crosses, IsStart, IsWithin};
 
 use crate::NoMemory;
@@ -26,7 +26,7 @@ fn is_regular_part<F: Field>(
 ) -> Result<bool, NoMemory>
     requires field { IsMultivectorField complex.now.1.faces partition.now }
     requires part { IsPartNumber partition.now p }
-    ensures { IfOk result (λ answer. IsTrue answer ↔ IsCalledRegular (field_of (F.arithmetic complex.now.0) complex.now.1 partition.now) p) }
+    ensures { IfOk result (λ answer. IsTrue answer ↔ IsCalledRegular (flow_of (F.arithmetic complex.now.0) complex.now.1 partition.now) p) }
 {
     let answer = is_regular(alloc, complex, partition.cells_of(p))?;
     Ok(answer)
@@ -44,7 +44,7 @@ fn put_critical<F: Field>(
     requires field { IsMultivectorField complex.now.1.faces partition.now }
     requires part { IsPartNumber partition.now p }
     ensures { OnOk result ((i : ℕ) → Contains starts.new.items i ↔
-        (Contains starts.old.items i ⊎ ((i ≡ place) × ¬ IsCalledRegular (field_of (F.arithmetic complex.now.0) complex.now.1 partition.now) p))) }
+        (Contains starts.old.items i ⊎ ((i ≡ place) × ¬ IsCalledRegular (flow_of (F.arithmetic complex.now.0) complex.now.1 partition.now) p))) }
 {
     if !is_regular_part(alloc, complex, partition, p)? {
         starts.push(place)?;
@@ -66,7 +66,7 @@ fn put_firsts<F: Field>(
     requires parts { All (IsPartNumber partition.now) parts.now }
     requires count { length firsts.now ≡ length parts.now }
     ensures { OnOk result ((i : ℕ) → Contains starts.new.items i ↔ (Contains starts.old.items i ⊎ ((i < length parts.now) × (slice_index firsts.now i ≡ i) ×
-        ¬ IsCalledRegular (field_of (F.arithmetic complex.now.0) complex.now.1 partition.now) (slice_index parts.now i)))) }
+        ¬ IsCalledRegular (flow_of (F.arithmetic complex.now.0) complex.now.1 partition.now) (slice_index parts.now i)))) }
 {
     for i in 0..parts.len() as u32 {
         if firsts[i as usize] == i {
@@ -81,7 +81,8 @@ fn crosses(parts: &[u32], heads: &[u32], class_of: &[u32], i: u32) -> bool
     requires classes { length class_of.now ≡ length parts.now }
     requires place { i < length parts.now }
     requires heads { All (λ j. j < length parts.now) heads.now }
-    ensures { IsTrue result ↔ ((j : ℕ) × Contains heads.now j × (slice_index class_of.now j ≡ slice_index class_of.now i) × (slice_index parts.now j ≢ slice_index parts.now i)) }
+    ensures { IsTrue result ↔ ((j : ℕ) × Contains heads.now j × (slice_index class_of.now j ≡ slice_index class_of.now i)
+        × (slice_index parts.now j ≢ slice_index parts.now i)) }
 {
     for j in heads {
         if class_of[*j as usize] == class_of[i as usize]
@@ -123,7 +124,8 @@ pub(crate) fn starts<F: Field>(
     requires few { length set.now < 2 ^ 32 }
     requires within { IsWithin complex.now.1.faces partition.now set.now within.now.parts.items within.now.firsts.items (items_of within.now.steps.items) }
     ensures { IfOk result (λ starts. (i : ℕ) → Contains starts.items i ↔
-        IsStart (IsCalledRegular (field_of (F.arithmetic complex.now.0) complex.now.1 partition.now)) within.now.parts.items within.now.firsts.items (items_of within.now.steps.items) i) }
+        IsStart (IsCalledRegular (flow_of (F.arithmetic complex.now.0) complex.now.1 partition.now)) within.now.parts.items within.now.firsts.items
+        (items_of within.now.steps.items) i) }
 {
     let mut starts = crossing(alloc, &within.parts, &within.steps)?;
     put_firsts(

@@ -1,7 +1,7 @@
 //! The steps within a set, as lists of places.
 
 ghost use Rattle.std.specs.Prelude.{◌≡◌, ◌↔◌, ◌<◌, ◌^◌, ℕ, All, Contains, OnOk, IfOk, length, slice_index};
-ghost use Rattle.conley_walk.specs.Lists.{items_of};
+ghost use Rattle.conley_lists.specs.Lists.{items_of};
 ghost use Rattle.conley_faces.specs.Face.{IsCellList};
 ghost use Rattle.conley_mvf.specs.Partition.{IsMultivectorField};
 ghost use Rattle.conley_isolation.specs.Making.{IsUnder, HasFaceSteps, LinksFirsts, IsWithin};
@@ -9,8 +9,8 @@ ghost use Rattle.conley_isolation.specs.Making.{IsUnder, HasFaceSteps, LinksFirs
 use crate::NoMemory;
 use crate::places::{firsts_of, parts_of, places_in};
 use conley_faces::Faces;
+use conley_lists::put_under;
 use conley_mvf::Partition;
-use conley_walk::put_under;
 use std::alloc::Global;
 
 /// The places in the set of the cells directly under x, or of the faces of x.
@@ -88,7 +88,7 @@ pub(crate) fn within_set(
     requires set { IsCellList faces.now set.now }
     ensures { IfOk result (λ w. IsWithin faces.now partition.now set.now w.parts.items w.firsts.items (items_of w.steps.items)) }
 {
-    let _count = faces.count();
+    let _order = faces.count();
     let parts = parts_of(alloc, partition, set)?;
     let firsts = firsts_of(alloc, &parts, partition.count())?;
     let direct = faces.find_gap(set).is_none();

@@ -1,3 +1,4 @@
 pub mod JsonLemmas
 pub mod FormLemmas
 pub mod WrittenLemmas
+pub mod MeaningLemmas

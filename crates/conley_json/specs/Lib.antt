@@ -1,3 +1,4 @@
 pub mod Form
 pub mod Json
+pub mod Meaning
 pub mod Written

@@ -3,14 +3,16 @@ use Rattle.std.proofs.Common.{◌≡◌, ◌≢◌, ◌⊎◌, inl, inr, ◌+◌
 use Rattle.std.specs.Prelude.{Contains, ◌&&◌, not, nat_lt}
 use Rattle.std.specs.List.{position_or_len, position}
 use Rattle.std.specs.List.Sorted.{IsStrictlyIncreasing}
-use Rattle.std.proofs.lemmas.Bool.{cases_eq, cases_lt, eq-eqb, ne_eqb}
+use Rattle.std.proofs.lemmas.Bool.{cases_eq, eq-eqb, ne_eqb}
 use Rattle.std.proofs.lemmas.Bool.Decides.{nat_tests}
 use Rattle.std.proofs.lemmas.List.{get_or-map, length-map}
 use Rattle.std.proofs.lemmas.List.Kept.{AllPairs-from_increasing}
-use Rattle.conley_walk.proofs.ListLemmas.{Contains-none}
+use Rattle.conley_first.specs.Places.{FindsFirstNumber}
+use Rattle.conley_lists.proofs.ListLemmas.{Contains-none}
 use Rattle.conley_chains.specs.Chain.{coefficient, IsChain}
-use Rattle.conley_lefschetz.specs.Listing.{triple_at, incidence_of}
-use Rattle.conley_lefschetz.specs.Making.{FindsFirstPlace}
+use Rattle.conley_chains.specs.Faults.{triple_at}
+use Rattle.conley_chains.proofs.ChainLemmas.{coefficient-lower}
+use Rattle.conley_lefschetz.specs.Listing.{incidence_of}
 use Rattle.conley_lefschetz.specs.Fault.{StoodBefore}
 
 -- the scalar of x and y is that of one of the incidences there, or there is none
@@ -27,7 +29,8 @@ at_pair a b x y = elim (cases_eq a x) [
   | inr ne ↦ inr ((λ p. ne p.0), grind (arith, nat_tests))
 ]
 
-pub incidence_of-cases : (incidences : List (ℕ × ℕ × ℕ)) (x y : ℕ) → IsListed incidences x y ⊎ ((incidence_of incidences x y ≡ 0) × ¬ StoodBefore incidences (length incidences) x y)
+pub incidence_of-cases : (incidences : List (ℕ × ℕ × ℕ)) (x y : ℕ) → IsListed incidences x y
+    ⊎ ((incidence_of incidences x y ≡ 0) × ¬ StoodBefore incidences (length incidences) x y)
 incidence_of-cases [] x y = inr (refl, (λ s. absurd (omega (arith, s.1))))
 incidence_of-cases (i ∷ is) x y = elim (at_pair i.0 i.1 x y) [
   | inl here ↦ inl (record { number = 0; within = omega arith; upper = here.0.0; lower = here.0.1; scalar = ap (λ b. cond b i.2 (incidence_of is x y)) here.1 })
@@ -47,12 +50,15 @@ next_at : (i : ℕ × ℕ × ℕ) (is : List (ℕ × ℕ × ℕ)) (n : ℕ) → 
 next_at i is n = let e : 1 + n ≡ suc n = omega arith in ap (triple_at (i ∷ is)) e
 
 -- the scalar stands at the first place of x and y
-pub incidence_of-at : (incidences : List (ℕ × ℕ × ℕ)) (x y : ℕ) → incidence_of incidences x y ≡ (triple_at incidences (position_or_len (λ (i : ℕ × ℕ × ℕ). (x == i.0) && (y == i.1)) incidences)).2
+pub incidence_of-at : (incidences : List (ℕ × ℕ × ℕ)) (x y : ℕ) → incidence_of incidences x y ≡
+    (triple_at incidences (position_or_len (λ (i : ℕ × ℕ × ℕ). (x == i.0) && (y == i.1)) incidences)).2
 incidence_of-at [] x y = refl
 incidence_of-at (i ∷ is) x y = by (incidence_of-at is x y) ((x == i.0) && (y == i.1)) refl
   where
-    by : incidence_of is x y ≡ (triple_at is (position_or_len (λ (i : ℕ × ℕ × ℕ). (x == i.0) && (y == i.1)) is)).2 → (b : Bool) → (x == i.0) && (y == i.1) ≡ b → incidence_of (i ∷ is) x y ≡ (triple_at (i ∷ is) (position_or_len (λ (i : ℕ × ℕ × ℕ). (x == i.0) && (y == i.1)) (i ∷ is))).2
-    by rest true e = ap (λ b. cond b i.2 (incidence_of is x y)) e ∙ sym (ap (λ b. (triple_at (i ∷ is) (cond (not b) (1 + position_or_len (λ (i : ℕ × ℕ × ℕ). (x == i.0) && (y == i.1)) is) 0)).2) e)
+    by : incidence_of is x y ≡ (triple_at is (position_or_len (λ (i : ℕ × ℕ × ℕ). (x == i.0) && (y == i.1)) is)).2 → (b : Bool) → (x == i.0) && (y == i.1) ≡ b
+        → incidence_of (i ∷ is) x y ≡ (triple_at (i ∷ is) (position_or_len (λ (i : ℕ × ℕ × ℕ). (x == i.0) && (y == i.1)) (i ∷ is))).2
+    by rest true e = ap (λ b. cond b i.2 (incidence_of is x y)) e
+        ∙ sym (ap (λ b. (triple_at (i ∷ is) (cond (not b) (1 + position_or_len (λ (i : ℕ × ℕ × ℕ). (x == i.0) && (y == i.1)) is) 0)).2) e)
     by rest false e = ap (λ b. cond b i.2 (incidence_of is x y)) e ∙ rest
         ∙ sym (ap (λ (t : ℕ × ℕ × ℕ). t.2) (next_at i is (position_or_len (λ (i : ℕ × ℕ × ℕ). (x == i.0) && (y == i.1)) is)))
         ∙ sym (ap (λ b. (triple_at (i ∷ is) (cond (not b) (1 + position_or_len (λ (i : ℕ × ℕ × ℕ). (x == i.0) && (y == i.1)) is) 0)).2) e)
@@ -78,7 +84,8 @@ module _ (f : ℕ → ℕ) where
   coefficient-unlisted [] y none = refl
   coefficient-unlisted (z ∷ zs) y none = elim (cases_eq y z) [
     | inl e ↦ absurd (none (0, omega arith, sym e))
-    | inr ne ↦ ap (λ b. cond b (f z) (coefficient (map (λ (y : ℕ). (y, f y)) zs) y)) (ne_eqb y z ne) ∙ coefficient-unlisted zs y (λ c. none (Contains-more z zs y c))
+    | inr ne ↦ ap (λ b. cond b (f z) (coefficient (map (λ (y : ℕ). (y, f y)) zs) y)) (ne_eqb y z ne)
+        ∙ coefficient-unlisted zs y (λ c. none (Contains-more z zs y c))
   ]
 
   abbrev pair : ℕ → ℕ × ℕ
@@ -100,22 +107,17 @@ module _ (f : ℕ → ℕ) where
 
 -- ---- the first place of a chain, and all of them
 
-coefficient-under : (es : List (ℕ × ℕ)) (place : ℕ) → All (λ e. place < e.0) es → coefficient es place ≡ 0
-coefficient-under [] place over = refl
-coefficient-under (e ∷ es) place over =
-    let less : place < e.0 = over 0 e (omega arith) in
-    ap (λ b. cond b e.1 (coefficient es place)) (ne_eqb place e.0 (omega arith)) ∙ coefficient-under es place (λ k d lt. over (suc k) d (omega (arith, lt)))
-
-pub least_kept : (es : List (ℕ × ℕ)) (d : ℕ × ℕ) → IsChain es → 0 < length es → FindsFirstPlace (λ z. coefficient es z ≢ 0) (Some (get_or es 0 d).0)
+pub least_kept : (es : List (ℕ × ℕ)) (d : ℕ × ℕ) → IsChain es → 0 < length es → FindsFirstNumber (λ z. coefficient es z ≢ 0) (Some (get_or es 0 d).0)
 least_kept [] d chain lt = absurd (omega arith)
 least_kept (e ∷ es) d chain lt = (
   (λ zero. chain.not_zero 0 d lt (sym (ap (λ b. cond b e.1 (coefficient es e.0)) (eq-eqb e.0 e.0 refl)) ∙ zero)),
-  (λ j less kept. kept (coefficient-under (e ∷ es) j (λ k q in_range. over j less k q in_range))),
+  (λ j less kept. kept (coefficient-lower (e ∷ es) j (λ k q in_range. over j less k q in_range))),
 )
   where
     over : (j : ℕ) → j < e.0 → (k : ℕ) (q : ℕ × ℕ) → k < length (e ∷ es) → j < (get_or (e ∷ es) k q).0
     over j less zero q in_range = less
-    over j less (suc k) q in_range = let up : e.0 < (get_or (e ∷ es) (suc k) q).0 = chain.ascending 0 (suc k) q (omega arith) in_range in omega (arith, less, up)
+    over j less (suc k) q in_range = let up : e.0 < (get_or (e ∷ es) (suc k) q).0 = chain.ascending 0 (suc k) q (omega arith) in_range in
+        omega (arith, less, up)
 
 pub coefficient-kept : (es : List (ℕ × ℕ)) (k : ℕ) (d : ℕ × ℕ) → IsChain es → k < length es → coefficient es (get_or es k d).0 ≡ (get_or es k d).1
 coefficient-kept [] k d chain lt = absurd (omega arith)
@@ -123,14 +125,11 @@ coefficient-kept (e ∷ es) zero d chain lt = ap (λ b. cond b e.1 (coefficient 
 coefficient-kept (e ∷ es) (suc k) d chain lt =
     let up : e.0 < (get_or es k d).0 = chain.ascending 0 (suc k) d (omega arith) lt in
     ap (λ b. cond b e.1 (coefficient es (get_or es k d).0)) (ne_eqb (get_or es k d).0 e.0 (omega (arith, up)))
-    ∙ coefficient-kept es k d (record { ascending = λ i j d less lt. chain.ascending (suc i) (suc j) d (omega (arith, less)) (omega (arith, lt)); not_zero = λ k d lt. chain.not_zero (suc k) d (omega (arith, lt)) }) (omega (arith, lt))
-
--- a chain that keeps nothing from n on has places below n
-pub places_below : (es : List (ℕ × ℕ)) (n : ℕ) → IsChain es → ((place : ℕ) → n ≤ place → coefficient es place ≡ 0) → All (λ e. e.0 < n) es
-places_below es n chain none k d lt = elim (cases_lt (get_or es k d).0 n) [
-  | inl less ↦ less
-  | inr ge ↦ absurd (chain.not_zero k d lt (sym (coefficient-kept es k d chain lt) ∙ none (get_or es k d).0 ge))
-]
+    ∙ coefficient-kept es k d (record {
+      ascending = λ i j d less lt. chain.ascending (suc i) (suc j) d (omega (arith, less)) (omega (arith, lt));
+      not_zero =
+          λ k d lt. chain.not_zero (suc k) d (omega (arith, lt));
+    }) (omega (arith, lt))
 
 -- a place that is found, and one that isn't
 pub position_found : {A : Type 0} (p : A → Bool) (xs : List A) (k : ℕ) → Some k ≡ position p xs → position_or_len p xs ≡ k
@@ -148,6 +147,6 @@ position_missed p xs e = by (nat_lt (position_or_len p xs) (length xs)) refl e
     by false t e = grind (arith, nat_tests)
 
 -- the first place at which one chain isn't zero, and another that is the same
-pub finds_same : (f g : ℕ → ℕ) → ((z : ℕ) → f z ≡ g z) → (answer : Option ℕ) → FindsFirstPlace (λ z. f z ≢ 0) answer → FindsFirstPlace (λ z. g z ≢ 0) answer
+pub finds_same : (f g : ℕ → ℕ) → ((z : ℕ) → f z ≡ g z) → (answer : Option ℕ) → FindsFirstNumber (λ z. f z ≢ 0) answer → FindsFirstNumber (λ z. g z ≢ 0) answer
 finds_same f g same None found = λ j ne. found j (λ e. ne (sym (same j) ∙ e))
 finds_same f g same (Some k) found = ((λ e. found.0 (same k ∙ e)), (λ j lt ne. found.1 j lt (λ e. ne (sym (same j) ∙ e))))

@@ -36,7 +36,13 @@ module _ {F : Arithmetic} (laws : IsField F) (c : Layout) where
     members = λ i below. absurd (omega arith);
     spans = λ v cycle. (
       (λ i. 0),
-      record { codes = λ i. sums.zero_below laws; rest = v; in_B = regular v cycle.0; is = λ x. sym (laws.add_comm 0 (v x) ∙ laws.add_zero (v x) (cycle.0.chain.codes x)) },
+      record {
+        codes = λ i. sums.zero_below laws;
+        rest = v;
+        in_B = regular v cycle.0;
+        is =
+            λ x. sym (laws.add_comm 0 (v x) ∙ laws.add_zero (v x) (cycle.0.chain.codes x));
+      },
     );
     once = λ v a b cycle by_a by_b i below. absurd (omega arith);
   }
@@ -67,7 +73,8 @@ module _ {F : Arithmetic} (laws : IsField F) (c : Layout) where
     regular_where_zero set numbers are = (
       (λ regular k d below.
           get_or_default numbers k d 0 below
-          ∙ (let basis = are.basis k (omega (arith, below, are.levels_count)) in one_length set k (get_or numbers k 0) 0 basis.0 basis.0 basis.1 (none_basis set regular k basis.0))),
+          ∙ (let basis = are.basis k (omega (arith, below, are.levels_count)) in one_length set k (get_or numbers k 0) 0 basis.0 basis.0 basis.1
+          (none_basis set regular k basis.0))),
       (λ zeros. all_boundaries laws (column_count c.boundary) (entry c.boundary) (dim_in c.dims) (IsInClosure c.faces set) (IsInMouth c.faces set) c.levels
           is.complex.one_down (closure_levels set) (λ k i x. 0) (λ k below.
           let basis = are.basis k below in

@@ -2,15 +2,17 @@
 use Rattle.std.proofs.Common.{◌≡◌, ◌⊎◌, inl, inr, ◌+◌, ◌<◌, ◌≤◌, ℕ, List, length, get_or, refl, sym, subst, ap, arith}
 use Rattle.std.specs.Prelude.{◌↔◌}
 use Rattle.std.proofs.lemmas.Bool.{cases_lt, cases_eq, cases_order}
-use Rattle.conley_walk.specs.Lists.{ListedStep, PutsUnder}
+use Rattle.conley_chains.specs.Faults.{triple_at}
+use Rattle.conley_lists.specs.Lists.{ListedStep, PutsUnder}
 use Rattle.conley_walk.proofs.WalkLemmas.{reaches_least}
 use Rattle.conley_faces.specs.Face.{IsBelowItself}
-use Rattle.conley_lefschetz.specs.Listing.{triple_at, dim_in}
+use Rattle.conley_lefschetz.specs.Listing.{dim_in}
 use Rattle.conley_lefschetz.specs.Fault.{IsFault, StoodBefore}
 
 -- one incidence more
 module _ (incidences : List (ℕ × ℕ × ℕ)) (k : ℕ) where
-  stood_more : (x y : ℕ) → StoodBefore incidences (k + 1) x y ↔ (StoodBefore incidences k x y ⊎ ((x ≡ (triple_at incidences k).0) × (y ≡ (triple_at incidences k).1)))
+  stood_more : (x y : ℕ) → StoodBefore incidences (k + 1) x y ↔ (StoodBefore incidences k x y
+      ⊎ ((x ≡ (triple_at incidences k).0) × (y ≡ (triple_at incidences k).1)))
   stood_more x y = (
     (λ u. elim (cases_order u.0 k) [
       | inl e ↦ inr (sym (subst (λ j. (triple_at incidences j).0 ≡ x) e u.2), sym (subst (λ j. (triple_at incidences j).1 ≡ y) e u.3))
@@ -43,7 +45,9 @@ module _ (dims : List ℕ) (incidences : List (ℕ × ℕ × ℕ)) (clear : (k w
       ]
 
   -- so no walk of one or more steps leads back
-  pub no_cycle : (lists : List (List ℕ)) → ((x y : ℕ) → ListedStep lists x y → StoodBefore incidences (length incidences) x y) → (x : ℕ) → ¬ IsBelowItself lists x
+  pub no_cycle : (lists : List (List ℕ)) → ((x y : ℕ) → ListedStep lists x y → StoodBefore incidences (length incidences) x y) → (x : ℕ)
+      → ¬ IsBelowItself lists x
   no_cycle lists only x b =
-      let down : get_or dims x 0 ≤ get_or dims b.0 0 = reaches_least (λ q. get_or dims q 0 ≤ get_or dims b.0 0) (λ p q s le. omega (arith, one_down p q (only p q s), le)) b.2 (omega arith) in
+      let down : get_or dims x 0 ≤ get_or dims b.0 0 = reaches_least (λ q. get_or dims q 0 ≤ get_or dims b.0 0)
+      (λ p q s le. omega (arith, one_down p q (only p q s), le)) b.2 (omega arith) in
       omega (arith, down, one_down x b.0 (only x b.0 b.1))

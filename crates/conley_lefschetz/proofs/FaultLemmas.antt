@@ -3,9 +3,10 @@ use Rattle.std.proofs.Common.{◌≡◌, ◌≢◌, ◌<◌, ℕ, List, [], ◌�
 use Rattle.conley_field.specs.Arithmetic.{Arithmetic}
 use Rattle.conley_first.specs.First.{Precedes, IsTold}
 use Rattle.conley_first.proofs.FirstLemmas.{clear-next, first-next, first-one}
+use Rattle.conley_first.specs.Places.{FindsFirst}
 use Rattle.conley_lefschetz.specs.Listing.{Listing, square_at}
 use Rattle.conley_lefschetz.specs.Fault.{IsFault, IsDuplicate, number, place, Fails, IsFirstFault, IsClear}
-use Rattle.conley_lefschetz.specs.Making.{FindsFirst, FindsDuplicate}
+use Rattle.conley_lefschetz.specs.Making.{FindsDuplicate}
 use Rattle.conley_lefschetz.specs.declared.error.ComplexError.{ComplexError}
 use Rattle.conley_lefschetz.specs.declared.error.ComplexError.TheVariants.{DuplicateLabel, BadIncidence, NotBoundary, NoMemory}
 
@@ -17,7 +18,8 @@ module _ (F : Arithmetic) (l : Listing) where
   pub clear_start : IsClear F l 1
   clear_start = record { none = start }
 
-  of_duplicate : (Q : List ℕ → Type 0) → ((i j : ℕ) → Q (j ∷ i ∷ []) → ¬ IsDuplicate l.labels i j) → (other : ComplexError) → number other ≡ 1 → Q (place other) → ¬ Fails F l other
+  of_duplicate : (Q : List ℕ → Type 0) → ((i j : ℕ) → Q (j ∷ i ∷ []) → ¬ IsDuplicate l.labels i j) → (other : ComplexError) → number other ≡ 1
+      → Q (place other) → ¬ Fails F l other
   of_duplicate Q none (DuplicateLabel i j) e q = none i j q
   of_duplicate Q none other e q = absurd (omega arith)
 
@@ -26,11 +28,13 @@ module _ (F : Arithmetic) (l : Listing) where
 
   pub first_duplicate : (fault : ComplexError) → fault ≢ NoMemory → FindsDuplicate l.labels fault → IsFirstFault F l fault
   first_duplicate NoMemory ne found = absurd (ne refl)
-  first_duplicate (DuplicateLabel i j) ne found = first-next number place (Fails F l) 1 clear_start (DuplicateLabel i j) refl found.0 (of_duplicate (λ a. Precedes a (j ∷ i ∷ [])) found.1)
+  first_duplicate (DuplicateLabel i j) ne found = first-next number place (Fails F l) 1 clear_start (DuplicateLabel i j) refl found.0
+      (of_duplicate (λ a. Precedes a (j ∷ i ∷ [])) found.1)
   first_duplicate (BadIncidence k w) ne found = absurd found
   first_duplicate (NotBoundary x z) ne found = absurd found
 
-  of_incidence : (Q : List ℕ → Type 0) → ((k w : ℕ) → Q (k ∷ w ∷ []) → ¬ IsFault l.dims l.incidences k w) → (other : ComplexError) → number other ≡ 2 → Q (place other) → ¬ Fails F l other
+  of_incidence : (Q : List ℕ → Type 0) → ((k w : ℕ) → Q (k ∷ w ∷ []) → ¬ IsFault l.dims l.incidences k w) → (other : ComplexError) → number other ≡ 2
+      → Q (place other) → ¬ Fails F l other
   of_incidence Q none (BadIncidence k w) e q = none k w q
   of_incidence Q none other e q = absurd (omega arith)
 
@@ -38,13 +42,16 @@ module _ (F : Arithmetic) (l : Listing) where
   clear_incidence before none = clear-next number place (Fails F l) 2 before (λ other e. of_incidence (λ _. Unit {0}) (λ k w _. none k w) other e tt)
 
   pub first_incidence : IsClear F l 2 → (k w : ℕ) → FindsFirst (IsFault l.dims l.incidences) (Some (k, w)) → IsFirstFault F l (BadIncidence k w)
-  first_incidence before k w found = first-next number place (Fails F l) 2 before (BadIncidence k w) refl found.0 (of_incidence (λ a. Precedes a (k ∷ w ∷ [])) found.1)
+  first_incidence before k w found = first-next number place (Fails F l) 2 before (BadIncidence k w) refl found.0
+      (of_incidence (λ a. Precedes a (k ∷ w ∷ [])) found.1)
 
-  of_square : (Q : List ℕ → Type 0) → ((x z : ℕ) → Q (x ∷ z ∷ []) → ¬ (square_at F l.incidences (length l.dims) x z ≢ 0)) → (other : ComplexError) → number other ≡ 3 → Q (place other) → ¬ Fails F l other
+  of_square : (Q : List ℕ → Type 0) → ((x z : ℕ) → Q (x ∷ z ∷ []) → ¬ (square_at F l.incidences (length l.dims) x z ≢ 0)) → (other : ComplexError)
+      → number other ≡ 3 → Q (place other) → ¬ Fails F l other
   of_square Q none (NotBoundary x z) e q = none x z q
   of_square Q none other e q = absurd (omega arith)
 
-  pub first_square : IsClear F l 3 → (x z : ℕ) → FindsFirst (λ x z. square_at F l.incidences (length l.dims) x z ≢ 0) (Some (x, z)) → IsFirstFault F l (NotBoundary x z)
+  pub first_square : IsClear F l 3 → (x z : ℕ) → FindsFirst (λ x z. square_at F l.incidences (length l.dims) x z ≢ 0) (Some (x, z))
+      → IsFirstFault F l (NotBoundary x z)
   first_square before x z found = first-next number place (Fails F l) 3 before (NotBoundary x z) refl found.0 (of_square (λ a. Precedes a (x ∷ z ∷ [])) found.1)
 
   below : (fault : ComplexError) → number fault < 4
@@ -53,7 +60,8 @@ module _ (F : Arithmetic) (l : Listing) where
 
   -- where no place has a fault, none fails
   pub accepted : IsClear F l 3 → ((x z : ℕ) → ¬ (square_at F l.incidences (length l.dims) x z ≢ 0)) → (fault : ComplexError) → ¬ Fails F l fault
-  accepted before none fault = (clear-next number place (Fails F l) 3 before (λ other e. of_square (λ _. Unit {0}) (λ x z _. none x z) other e tt)).none fault (below fault)
+  accepted before none fault = (clear-next number place (Fails F l) 3 before (λ other e. of_square (λ _. Unit {0}) (λ x z _. none x z) other e tt)).none fault
+      (below fault)
 
   -- number and place of a fault tell the rest of it
   told : IsTold number place (Fails F l)

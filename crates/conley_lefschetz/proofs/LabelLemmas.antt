@@ -27,7 +27,8 @@ module _ (keys : List (String Global)) (copy : String Global) where
   text_found : (i : ℕ) → i < length keys → get_or (bytes_of keys) i [] ≡ string_bytes copy → string_eq copy (get_or keys i copy) ≡ true
   text_found i lt e = (bytes_eq-Decides (string_bytes copy) (string_bytes (get_or keys i copy))).1 (sym e ∙ get_or-map string_bytes keys i copy [] lt)
 
-  pub numbers_new : (label : List ℕ) (new : List (String Global)) → string_bytes copy ≡ label → true ≡ not (list_any (string_eq copy) keys) → new ≡ (cond (list_any (string_eq copy) keys) keys (keys ++ copy ∷ [])) → NumbersLabel (bytes_of keys) (bytes_of new) label None
+  pub numbers_new : (label : List ℕ) (new : List (String Global)) → string_bytes copy ≡ label → true ≡ not (list_any (string_eq copy) keys)
+      → new ≡ (cond (list_any (string_eq copy) keys) keys (keys ++ copy ∷ [])) → NumbersLabel (bytes_of keys) (bytes_of new) label None
   numbers_new label new e added same =
       let none : list_any (string_eq copy) keys ≡ false = by (list_any (string_eq copy) keys) added in (
         ap bytes_of (same ∙ ap (λ b. cond b keys (keys ++ copy ∷ [])) none) ∙ (rw map-append (ap (λ l. bytes_of keys ++ l ∷ []) e)),
@@ -39,7 +40,8 @@ module _ (keys : List (String Global)) (copy : String Global) where
       by true h = absurd (true≢false h)
       by false h = refl
 
-  pub numbers_old : (label : List ℕ) (new : List (String Global)) (i : ℕ) → string_bytes copy ≡ label → i < length keys → i ≡ position_or_len (string_eq copy) keys → NumbersLabel (bytes_of keys) (bytes_of new) label (Some i)
+  pub numbers_old : (label : List ℕ) (new : List (String Global)) (i : ℕ) → string_bytes copy ≡ label → i < length keys
+      → i ≡ position_or_len (string_eq copy) keys → NumbersLabel (bytes_of keys) (bytes_of new) label (Some i)
   numbers_old label new i e lt at =
       let found : position (string_eq copy) keys ≡ Some i = grind (arith, nat_tests) in
       let p = position-Some (string_eq copy) keys i copy found in (
@@ -52,7 +54,8 @@ module _ (keys : List (String Global)) (copy : String Global) where
 module _ (old : List (List ℕ)) (label : List ℕ) (differ : (i j : ℕ) → ¬ IsDuplicate old i j) where
   pub distinct_push : ((i : ℕ) → i < length old → get_or old i [] ≡ label → ⊥) → (i j : ℕ) → ¬ IsDuplicate (old ++ label ∷ []) i j
   distinct_push new i j d =
-      let left : get_or (old ++ label ∷ []) i [] ≡ get_or old i [] = get_or_append_left old (label ∷ []) [] i (omega (arith, d.0, d.1, length-append old (label ∷ []))) in
+      let left : get_or (old ++ label ∷ []) i [] ≡ get_or old i [] = get_or_append_left old (label ∷ []) [] i
+      (omega (arith, d.0, d.1, length-append old (label ∷ []))) in
       elim (cases_lt j (length old)) [
         | inl lt ↦ differ i j (d.0, lt, sym left ∙ d.2 ∙ get_or_append_left old (label ∷ []) [] j lt)
         | inr ge ↦
@@ -61,10 +64,12 @@ module _ (old : List (List ℕ)) (label : List ℕ) (differ : (i j : ℕ) → ¬
       ]
 
   -- a label that stood before: the first pair of equal labels
-  pub duplicate_first : (labels rest : List (List ℕ)) → labels ≡ old ++ label ∷ rest → (i : ℕ) → (i < length old) × (get_or old i [] ≡ label) × ((h : ℕ) → h < i → get_or old h [] ≡ label → ⊥)
+  pub duplicate_first : (labels rest : List (List ℕ)) → labels ≡ old ++ label ∷ rest → (i : ℕ) → (i < length old) × (get_or old i [] ≡ label)
+      × ((h : ℕ) → h < i → get_or old h [] ≡ label → ⊥)
       → IsDuplicate labels i (length old) × ((h k : ℕ) → Precedes (k ∷ h ∷ []) (length old ∷ i ∷ []) → ¬ IsDuplicate labels h k)
   duplicate_first labels rest whole i n =
-      let left : (h : ℕ) → h < length old → get_or labels h [] ≡ get_or old h [] = λ h lt. ap (λ ls. get_or ls h []) whole ∙ get_or_append_left old (label ∷ rest) [] h lt in
+      let left : (h : ℕ) → h < length old → get_or labels h [] ≡ get_or old h [] = λ h lt. ap (λ ls. get_or ls h []) whole
+      ∙ get_or_append_left old (label ∷ rest) [] h lt in
       let seam : get_or labels (length old) [] ≡ label = ap (λ ls. get_or ls (length old) []) whole ∙ get_or-append_seam old label rest [] in (
         (n.0, omega (arith, ap length whole, length-append old (label ∷ rest)), left i n.0 ∙ n.1 ∙ sym seam),
         (λ h k before d. elim before [
@@ -78,42 +83,53 @@ module _ (old : List (List ℕ)) (label : List ℕ) (differ : (i j : ℕ) → ¬
 
 -- a label that is looked up, and one that no key has
 module _ (keys : List (String Global)) (label : List ℕ) (d : String Global) where
-  pub label_found : (k : ℕ) → position (λ (key : String Global). bytes_eq label (string_bytes key)) keys ≡ Some k → (k < length (bytes_of keys)) × (get_or (bytes_of keys) k [] ≡ label)
+  pub label_found : (k : ℕ) → position (λ (key : String Global). bytes_eq label (string_bytes key)) keys ≡ Some k → (k < length (bytes_of keys))
+      × (get_or (bytes_of keys) k [] ≡ label)
   label_found k found =
       let p = position-Some (λ (key : String Global). bytes_eq label (string_bytes key)) keys k d found in (
         omega (arith, p.0, length-bytes_of keys),
         get_or-map string_bytes keys k d [] p.0 ∙ sym ((bytes_eq-Decides label (string_bytes (get_or keys k d))).0 p.1),
       )
 
-  pub label_missed : position (λ (key : String Global). bytes_eq label (string_bytes key)) keys ≡ None → (k : ℕ) → k < length (bytes_of keys) → get_or (bytes_of keys) k [] ≡ label → ⊥
+  pub label_missed : position (λ (key : String Global). bytes_eq label (string_bytes key)) keys ≡ None → (k : ℕ) → k < length (bytes_of keys)
+      → get_or (bytes_of keys) k [] ≡ label → ⊥
   label_missed missed k lt same =
-      let past : length keys ≤ position_or_len (λ (key : String Global). bytes_eq label (string_bytes key)) keys = position_missed (λ (key : String Global). bytes_eq label (string_bytes key)) keys (sym missed) in
+      let past : length keys ≤ position_or_len (λ (key : String Global). bytes_eq label (string_bytes key)) keys =
+      position_missed (λ (key : String Global). bytes_eq label (string_bytes key)) keys (sym missed) in
       let lt' : k < length keys = omega (arith, lt, length-bytes_of keys) in
-      let fails : bytes_eq label (string_bytes (get_or keys k d)) ≡ false = fails_before_first (λ (key : String Global). bytes_eq label (string_bytes key)) keys k d (omega (arith, lt', past)) in
+      let fails : bytes_eq label (string_bytes (get_or keys k d)) ≡ false = fails_before_first (λ (key : String Global). bytes_eq label (string_bytes key))
+      keys k d (omega (arith, lt', past)) in
       false≢true (sym fails ∙ (bytes_eq-Decides label (string_bytes (get_or keys k d))).1 (sym same ∙ get_or-map string_bytes keys k d [] lt'))
 
-pub label_of : (keys : List (String Global)) (label : List ℕ) (k : ℕ) → position (λ (key : String Global). bytes_eq label (string_bytes key)) keys ≡ Some k → (k < length (bytes_of keys)) × (get_or (bytes_of keys) k [] ≡ label)
+pub label_of : (keys : List (String Global)) (label : List ℕ) (k : ℕ) → position (λ (key : String Global). bytes_eq label (string_bytes key)) keys ≡ Some k
+    → (k < length (bytes_of keys)) × (get_or (bytes_of keys) k [] ≡ label)
 label_of [] label k found = cc
 label_of (key ∷ rest) label k found = label_found (key ∷ rest) label key k found
 
-pub no_label : (keys : List (String Global)) (label : List ℕ) → position (λ (key : String Global). bytes_eq label (string_bytes key)) keys ≡ None → (k : ℕ) → k < length (bytes_of keys) → get_or (bytes_of keys) k [] ≡ label → ⊥
+pub no_label : (keys : List (String Global)) (label : List ℕ) → position (λ (key : String Global). bytes_eq label (string_bytes key)) keys ≡ None → (k : ℕ)
+    → k < length (bytes_of keys) → get_or (bytes_of keys) k [] ≡ label → ⊥
 no_label [] label missed k lt same = absurd (omega (arith, lt))
 no_label (key ∷ rest) label missed k lt same = label_missed (key ∷ rest) label key missed k lt same
 
 -- ---- labels numbered one after another
 
 module _ (labels : List (List ℕ)) (j : ℕ) (lt : j < length labels) (distinct : (h i : ℕ) → ¬ IsDuplicate (take j labels) h i) where
-  pub equal_found : (old : List (List ℕ)) (label : List ℕ) (new : List (List ℕ)) (i : ℕ) → old ≡ take j labels → label ≡ get_or labels j [] → NumbersLabel old new label (Some i) → FindsEqual labels (Some (i, j))
+  pub equal_found : (old : List (List ℕ)) (label : List ℕ) (new : List (List ℕ)) (i : ℕ) → old ≡ take j labels → label ≡ get_or labels j []
+      → NumbersLabel old new label (Some i) → FindsEqual labels (Some (i, j))
   equal_found old label new i are is n =
-      let whole : labels ≡ take j labels ++ get_or labels j [] ∷ drop (j + 1) labels = sym (take-append-drop j labels) ∙ ap (λ l. take j labels ++ l) (drop_more labels j [] lt) in
+      let whole : labels ≡ take j labels ++ get_or labels j [] ∷ drop (j + 1) labels = sym (take-append-drop j labels)
+      ∙ ap (λ l. take j labels ++ l) (drop_more labels j [] lt) in
       let count : length (take j labels) ≡ j = length-take-le j labels (omega (arith, lt)) in
-      let m : NumbersLabel (take j labels) new (get_or labels j []) (Some i) = subst (λ (l : List ℕ). NumbersLabel (take j labels) new l (Some i)) is (subst (λ (o : List (List ℕ)). NumbersLabel o new label (Some i)) are n) in
+      let m : NumbersLabel (take j labels) new (get_or labels j []) (Some i) = subst (λ (l : List ℕ). NumbersLabel (take j labels) new l (Some i)) is
+      (subst (λ (o : List (List ℕ)). NumbersLabel o new label (Some i)) are n) in
       subst (λ k. FindsEqual labels (Some (i, k))) count (duplicate_first (take j labels) (get_or labels j []) distinct labels (drop (j + 1) labels) whole i m)
 
-  pub none_equal : (old : List (List ℕ)) (label : List ℕ) (new : List (List ℕ)) → old ≡ take j labels → label ≡ get_or labels j [] → NumbersLabel old new label None → (new ≡ take (j + 1) labels) × ((h i : ℕ) → ¬ IsDuplicate (take (j + 1) labels) h i)
+  pub none_equal : (old : List (List ℕ)) (label : List ℕ) (new : List (List ℕ)) → old ≡ take j labels → label ≡ get_or labels j []
+      → NumbersLabel old new label None → (new ≡ take (j + 1) labels) × ((h i : ℕ) → ¬ IsDuplicate (take (j + 1) labels) h i)
   none_equal old label new are is n =
       let more = take_more labels j [] lt in
-      let m : NumbersLabel (take j labels) new (get_or labels j []) None = subst (λ (l : List ℕ). NumbersLabel (take j labels) new l None) is (subst (λ (o : List (List ℕ)). NumbersLabel o new label None) are n) in (
+      let m : NumbersLabel (take j labels) new (get_or labels j []) None = subst (λ (l : List ℕ). NumbersLabel (take j labels) new l None) is
+      (subst (λ (o : List (List ℕ)). NumbersLabel o new label None) are n) in (
         m.0 ∙ sym more,
         subst (λ (l : List (List ℕ)). (h i : ℕ) → ¬ IsDuplicate l h i) (sym more) (distinct_push (take j labels) (get_or labels j []) distinct m.1),
       )

@@ -4,7 +4,7 @@ use Rattle.std.proofs.lemmas.List.{ext_get_or}
 use Rattle.conley_field.specs.Arithmetic.{Arithmetic}
 use Rattle.conley_chains.specs.Matrix.{Table, entry, column_count}
 use Rattle.conley_chains.proofs.EqualLemmas.{same_coefficients}
-use Rattle.conley_walk.proofs.AscendingLemmas.{same_numbers}
+use Rattle.conley_lists.proofs.AscendingLemmas.{same_numbers}
 use Rattle.conley_lefschetz.specs.Complex.{IsComplex, IsLevels, Layout, IsLayout, ComplexIsOne}
 
 -- two least numbers above all dimensions
@@ -54,7 +54,8 @@ module _ (F : Arithmetic) (m n : Table) (dims other : List ℕ) (faces lists : L
       )))
 
 -- complexes with the same labels, dimensions and entries
-pub same_layouts : (F : Arithmetic) (a b : Layout) → IsLayout F a → IsLayout F b → a.labels ≡ b.labels → a.dims ≡ b.dims → ((x y : ℕ) → entry a.boundary y x ≡ entry b.boundary y x) → a ≡ b
+pub same_layouts : (F : Arithmetic) (a b : Layout) → IsLayout F a → IsLayout F b → a.labels ≡ b.labels → a.dims ≡ b.dims
+    → ((x y : ℕ) → entry a.boundary y x ≡ entry b.boundary y x) → a ≡ b
 same_layouts F a b laws_a laws_b labels dims entries =
     layout_once a b
     labels

@@ -6,13 +6,12 @@
 --     IsComplexOf F listing c  the listing has no fault, and this is its complex
 --     ComplexIsOne F           a listing has at most one complex
 -- After Mrozek and Wanner; the wording is this project's own.
-use Rattle.std.specs.Prelude.{◌≡◌, ◌≢◌, ◌↔◌, ℕ, ◌+◌, ◌<◌, ◌≤◌, ◌^◌, List, [], All, length, slice_index_or}
-use Rattle.std.specs.List.Sorted.{IsStrictlyIncreasing}
+use Rattle.std.specs.Prelude.{◌≡◌, ◌≢◌, ◌↔◌, ℕ, ◌+◌, ◌<◌, ◌≤◌, ◌^◌, List, All, length}
 use Rattle.conley_field.specs.Arithmetic.{Arithmetic}
 use Rattle.conley_algebra.specs.Entries.{product_of, zero_entries, SameEntries, OnlyWhere}
 use Rattle.conley_chains.specs.Chain.{IsChain}
 use Rattle.conley_chains.specs.Matrix.{Table, entry, column_count, AllCodes}
-use Rattle.conley_walk.specs.Lists.{ListedStep}
+use Rattle.conley_lists.specs.Lists.{ListedStep, AllAscend}
 use Rattle.conley_lefschetz.specs.Listing.{Listing, dim_in, incidence_of}
 use Rattle.conley_lefschetz.specs.Fault.{IsDuplicate, Fails}
 use Rattle.conley_lefschetz.specs.declared.error.ComplexError.{ComplexError}
@@ -32,7 +31,7 @@ pub record IsComplex (F : Arithmetic) (m : Table) (dims : List ℕ) (faces : Lis
   -- y is directly under x exactly where κ(x, y) isn't zero
   pub direct : (x y : ℕ) → ListedStep faces x y ↔ (entry m y x ≢ 0)
   -- the cells directly under each cell ascend
-  pub ascending : (x : ℕ) → IsStrictlyIncreasing (slice_index_or faces x [])
+  pub ascending : AllAscend faces
 
 -- the least number above all dimensions
 pub record IsLevels (dims : List ℕ) (levels : ℕ) : Type 0 where

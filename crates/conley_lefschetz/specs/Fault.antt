@@ -8,9 +8,10 @@
 --     IsFirstFault F listing fault it fails, and none that fails stands before it
 --     IsClear F listing n          none with a number below n fails
 use Rattle.std.specs.Prelude.{◌≡◌, ◌≢◌, ◌⊎◌, ◌+◌, ◌<◌, ◌≤◌, ℕ, Option, Some, None, List, [], ◌∷◌, length, slice_index_or}
+use Rattle.conley_chains.specs.Faults.{triple_at}
 use Rattle.conley_field.specs.Arithmetic.{Arithmetic}
 use Rattle.conley_first.specs.First as first
-use Rattle.conley_lefschetz.specs.Listing.{Listing, dim_in, triple_at, square_at}
+use Rattle.conley_lefschetz.specs.Listing.{Listing, dim_in, square_at}
 use Rattle.conley_lefschetz.specs.declared.error.ComplexError.{ComplexError}
 use Rattle.conley_lefschetz.specs.declared.error.ComplexError.TheVariants.{DuplicateLabel, BadIncidence, NotBoundary, NoMemory}
 

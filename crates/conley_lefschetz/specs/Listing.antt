@@ -1,7 +1,6 @@
 -- What a complex is made from: labels, dimensions, and incidences as triples of two cells and their scalar.
 --     bytes_of labels                the texts of labels
 --     dim_in dims x                  the dimension of cell x
---     triple_at incidences k         incidence k of the list
 --     incidence_of incidences x y    the scalar of cells x and y, zero where the list has none
 --     square_at F incidences n x z   the sum over the n cells y of the incidences of x and y times those of y and z
 -- After Mrozek and Wanner; the wording is this project's own.
@@ -22,9 +21,6 @@ bytes_of labels = map string_bytes labels
 -- zero for a number that is no cell
 abbrev pub dim_in : List ℕ → ℕ → ℕ
 dim_in dims x = slice_index_or dims x 0
-
-abbrev pub triple_at : List (ℕ × ℕ × ℕ) → ℕ → ℕ × ℕ × ℕ
-triple_at incidences k = slice_index_or incidences k (0, 0, 0)
 
 -- of several triples of these cells the first counts
 abbrev pub incidence_of : List (ℕ × ℕ × ℕ) → ℕ → ℕ → ℕ

@@ -3,9 +3,9 @@
 ghost use Rattle.std.specs.Prelude.{◌≡◌, ◌≢◌, ◌<◌, ℕ, [], All, IfOk, length, map, slice_index_or};
 ghost use Rattle.std.specs.List.Sorted.{IsStrictlyIncreasing};
 ghost use Rattle.conley_chains.specs.Matrix.{column_count};
-ghost use Rattle.conley_walk.specs.Lists.{ListedStep};
+ghost use Rattle.conley_lists.specs.Lists.{ListedStep};
 ghost use Rattle.conley_lefschetz.specs.Listing.{incidence_of};
-ghost use Rattle.conley_lefschetz.specs.Making.{cells_of, column_of};
+ghost use Rattle.conley_lefschetz.specs.Making.{cells_in_triple, column_of};
 
 use crate::incidences::scalar_at;
 use conley_chains::{Chain, Matrix};
@@ -22,7 +22,7 @@ fn column_of(
     x: u32,
     direct: &[u32],
 ) -> Result<Chain, AllocError>
-    requires places { places.now.keys ≡ map cells_of incidences.now }
+    requires places { places.now.keys ≡ map cells_in_triple incidences.now }
     requires ascending { IsStrictlyIncreasing direct.now }
     requires not_zero { All (λ y. incidence_of incidences.now x y ≢ 0) direct.now }
     ensures { IfOk result (λ chain. chain ≡ column_of incidences.now x direct.now) }
@@ -41,11 +41,12 @@ pub(crate) fn boundary_of(
     incidences: &[(u32, u32, Scalar)],
     faces: &Faces,
 ) -> Result<Matrix, AllocError>
-    requires places { places.now.keys ≡ map cells_of incidences.now }
+    requires places { places.now.keys ≡ map cells_in_triple incidences.now }
     requires not_zero { (x y : ℕ) → ListedStep faces.now x y → incidence_of incidences.now x y ≢ 0 }
     ensures rows { IfOk result (λ m. m.rows ≡ length faces.now) }
     ensures columns { IfOk result (λ m. column_count m ≡ length faces.now) }
-    ensures entries { IfOk result (λ m. (x : ℕ) → x < length faces.now → slice_index_or m.columns x [] ≡ column_of incidences.now x (slice_index_or faces.now x [])) }
+    ensures entries { IfOk result (λ m. (x : ℕ) → x < length faces.now → slice_index_or m.columns x [] ≡ column_of incidences.now x
+        (slice_index_or faces.now x [])) }
 {
     let cells = faces.count();
     let mut columns = Vec::new(alloc);

@@ -37,7 +37,14 @@ impl<F: Field> Model for Complex<F> {
 
     ghost view = { λ c. (c.field, record { labels = bytes_of c.names.keys; boundary = c.matrix; dims = c.dims.items; faces = c.faces; levels = c.levels }) };
 
-    ghost invariant = { λ c. IsLayout (F.arithmetic c.field) (record { labels = bytes_of c.names.keys; boundary = c.matrix; dims = c.dims.items; faces = c.faces; levels = c.levels }) };
+    ghost invariant = { λ c. IsLayout (F.arithmetic c.field) (record {
+      labels = bytes_of c.names.keys;
+      boundary = c.matrix;
+      dims = c.dims.items;
+      faces =
+          c.faces;
+      levels = c.levels;
+    }) };
 }
 
 /// Whether lists of these lengths can be numbered together. No memory holds longer ones.
@@ -65,8 +72,14 @@ impl<F: Field> Complex<F> {
         requires count { length labels.items ≡ length dims.items }
         requires codes { All (λ i. i.2 < (F.arithmetic field).order) incidences.now }
         ensures field { IfOk result (λ c. c.0 ≡ field) }
-        ensures ok { IfOk result (λ c. IsComplexOf (F.arithmetic field) (record { labels = bytes_of labels.items; dims = dims.items; incidences = incidences.now }) c.1) }
-        ensures err { (error : _) → IsErrOf result error → error ≢ ComplexError.NoMemory → IsFirstFault (F.arithmetic field) (record { labels = bytes_of labels.items; dims = dims.items; incidences = incidences.now }) error }
+        ensures ok { IfOk result (λ c. IsComplexOf (F.arithmetic field) (record {
+          labels = bytes_of labels.items;
+          dims = dims.items;
+          incidences =
+              incidences.now;
+        }) c.1) }
+        ensures err { (error : _) → IsErrOf result error → error ≢ ComplexError.NoMemory → IsFirstFault (F.arithmetic field)
+            (record { labels = bytes_of labels.items; dims = dims.items; incidences = incidences.now }) error }
     {
         can_number(labels.len(), incidences.len())?;
         let names = number_labels(alloc, labels)?;

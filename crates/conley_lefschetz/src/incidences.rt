@@ -1,14 +1,16 @@
 //! The first incidence with a fault, and the lists of direct faces.
 
 ghost use Rattle.std.specs.Prelude.{◌≡◌, ◌+◌, ◌<◌, ◌≤◌, ◌↔◌, ◌^◌, ℕ, None, [], IfOk, length, map};
-ghost use Rattle.conley_walk.specs.Lists.{items_of, entries_of, ListedStep};
-ghost use Rattle.conley_lefschetz.specs.Listing.{triple_at, incidence_of};
+ghost use Rattle.conley_chains.specs.Faults.{triple_at};
+ghost use Rattle.conley_first.specs.Places.{FindsFirst};
+ghost use Rattle.conley_lists.specs.Lists.{items_of, entries_of, ListedStep};
+ghost use Rattle.conley_lefschetz.specs.Listing.{incidence_of};
 ghost use Rattle.conley_lefschetz.specs.Fault.{IsFault, StoodBefore};
-ghost use Rattle.conley_lefschetz.specs.Making.{FaultAlone, NotesCells, NextFault, FindsFirst, AreFacesOf, cells_of};
+ghost use Rattle.conley_lefschetz.specs.Making.{FaultAlone, NotesCells, NextFault, AreFacesOf, cells_in_triple};
 
 use conley_faces::{Faces, FacesError};
 use conley_field::Scalar;
-use conley_walk::put_under;
+use conley_lists::put_under;
 use indexmap::IndexSet;
 use std::alloc::{AllocError, Global};
 
@@ -63,7 +65,7 @@ pub(crate) fn first_fault(
 ) -> Result<Option<(usize, u8)>, AllocError>
     requires { stood.old.keys ≡ [] }
     ensures fault { IfOk result (FindsFirst (IsFault dims.now incidences.now)) }
-    ensures noted { IfOk result (λ found. found ≡ None → stood.new.keys ≡ map cells_of incidences.now) }
+    ensures noted { IfOk result (λ found. found ≡ None → stood.new.keys ≡ map cells_in_triple incidences.now) }
 {
     for (k, incidence) in incidences.iter().enumerate() {
         let why = next_fault(dims, stood, incidence)?;
@@ -81,7 +83,7 @@ pub(crate) fn scalar_at(
     x: u32,
     y: u32,
 ) -> Scalar
-    requires { places.now.keys ≡ map cells_of incidences.now }
+    requires { places.now.keys ≡ map cells_in_triple incidences.now }
     ensures { result ≡ incidence_of incidences.now x y }
 {
     match places.get_index_of(&(x, y)) {

@@ -1,10 +1,11 @@
 //! Where the square of a matrix isn't zero, column by column, over the entries that are kept.
 
 ghost use Rattle.std.specs.Prelude.{◌≡◌, ◌≢◌, ◌<◌, ◌≤◌, ◌^◌, ℕ, None, All, IfOk, IsTrue, length, replicate, slice_index};
+ghost use Rattle.conley_first.specs.Places.{FindsFirst, FindsFirstNumber};
 ghost use Rattle.conley_algebra.specs.Entries.{product_of};
 ghost use Rattle.conley_chains.specs.Chain.{coefficient, HasCodes};
 ghost use Rattle.conley_chains.specs.Matrix.{entry, column_count, AllCodes};
-ghost use Rattle.conley_lefschetz.specs.Making.{FindsFirst, FindsFirstPlace, AddsMultiple, IsSquareColumn};
+ghost use Rattle.conley_lefschetz.specs.Making.{AddsMultiple, IsSquareColumn};
 
 use conley_chains::{Chain, Matrix};
 use conley_field::{Field, Scalar};
@@ -69,7 +70,7 @@ fn is_zero_under(sums: &[Scalar], matrix: &Matrix, x: u32) -> bool
 /// The first place at which a sum isn't zero.
 fn first_not_zero(sums: &[Scalar]) -> Option<u32>
     requires { length sums.now < 2 ^ 32 }
-    ensures { FindsFirstPlace (λ z. slice_index sums.now z ≢ 0) result }
+    ensures { FindsFirstNumber (λ z. slice_index sums.now z ≢ 0) result }
 {
     for z in 0..sums.len() as u32 {
         if sums[z as usize].code() != 0 {
@@ -87,7 +88,7 @@ fn first_in_column<F: Field>(field: &F, sums: &mut [Scalar], matrix: &Matrix, x:
     requires square { matrix.now.rows ≡ column_count matrix.now }
     requires codes { AllCodes (F.arithmetic field.now) matrix.now }
     requires within { x < column_count matrix.now }
-    ensures first { FindsFirstPlace (λ z. product_of (F.arithmetic field.now) (column_count matrix.now) (entry matrix.now) (entry matrix.now) z x ≢ 0) result }
+    ensures first { FindsFirstNumber (λ z. product_of (F.arithmetic field.now) (column_count matrix.now) (entry matrix.now) (entry matrix.now) z x ≢ 0) result }
     ensures zero { result ≡ None → All (λ sum. sum ≡ 0) sums.new }
 {
     add_column(field, sums, matrix, x);

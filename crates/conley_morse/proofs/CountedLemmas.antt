@@ -3,14 +3,14 @@ use Rattle.std.proofs.Common.{◌≡◌, inl, inr, ◌+◌, ◌<◌, ℕ, List, 
 use Rattle.std.specs.Prelude.{slice_index}
 use Rattle.std.proofs.lemmas.Bool.{cases_eq}
 use Rattle.std.proofs.lemmas.List.{map-append}
-use Rattle.conley_walk.specs.Lists.{items_of}
-use Rattle.conley_walk.proofs.ListLemmas.{row_at_end, row_before}
+use Rattle.conley_lists.specs.Lists.{items_of}
+use Rattle.conley_lists.proofs.ListLemmas.{row_at_end, row_before}
 use Rattle.conley_field.specs.Arithmetic.{Arithmetic}
 use Rattle.conley_lefschetz.specs.Complex.{Layout}
 use Rattle.conley_lefschetz.specs.Conley.{AreConleyNumbers}
 use Rattle.conley_transitions.specs.Classes.{AreRecurrenceClasses}
 use Rattle.conley_transitions.specs.Morse.{set_at}
-use Rattle.conley_graph.specs.Decomposition.{field_of}
+use Rattle.conley_graph.specs.Decomposition.{flow_of}
 use Rattle.conley_morse.specs.Making.{ClassCounts, AreCountedSoFar}
 
 pub counted_none : {F : Arithmetic} (c : Layout) (part_of : List ℕ) (lists : List (List ℕ)) → AreCountedSoFar F c part_of lists 0 [] []
@@ -23,14 +23,16 @@ counted_none c part_of lists = record {
   conley = λ i lt. absurd (omega (arith, lt));
 }
 
-module _ {F : Arithmetic} (c : Layout) (part_of : List ℕ) (lists : List (List ℕ)) (classes : AreRecurrenceClasses c.faces part_of lists) (n : ℕ) (below : n < length lists) where
+module _ {F : Arithmetic} (c : Layout) (part_of : List ℕ) (lists : List (List ℕ)) (classes : AreRecurrenceClasses c.faces part_of lists) (n : ℕ)
+    (below : n < length lists) where
   -- it doesn't count
-  pub counted_same : (sets numbers : List (List ℕ)) → AreCountedSoFar F c part_of lists n sets numbers → ¬ ClassCounts (field_of F c part_of) (set_at lists n) → AreCountedSoFar F c part_of lists (n + 1) sets numbers
+  pub counted_same : (sets numbers : List (List ℕ)) → AreCountedSoFar F c part_of lists n sets numbers → ¬ ClassCounts (flow_of F c part_of) (set_at lists n)
+      → AreCountedSoFar F c part_of lists (n + 1) sets numbers
   counted_same sets numbers so_far not = record {
     few = omega (arith, so_far.few);
     come = λ i lt. let w = so_far.come i lt in (w.0, omega (arith, w.1), w.2, w.3);
     all = λ k lt counts. elim (cases_eq k n) [
-      | inl e ↦ absurd (not (subst (λ j. ClassCounts (field_of F c part_of) (set_at lists j)) e counts))
+      | inl e ↦ absurd (not (subst (λ j. ClassCounts (flow_of F c part_of) (set_at lists j)) e counts))
       | inr ne ↦ so_far.all k (omega arith) counts
     ];
     in_order = so_far.in_order;
@@ -39,8 +41,9 @@ module _ {F : Arithmetic} (c : Layout) (part_of : List ℕ) (lists : List (List 
   }
 
   -- it counts
-  module _ (sets numbers : List (Vec ℕ Global)) (set number : Vec ℕ Global) (is : set.items ≡ set_at lists n) (so_far : AreCountedSoFar F c part_of lists n (items_of sets) (items_of numbers))
-      (counts : ClassCounts (field_of F c part_of) (set_at lists n)) (conley : AreConleyNumbers F c (set_at lists n) number.items) where
+  module _ (sets numbers : List (Vec ℕ Global)) (set number : Vec ℕ Global) (is : set.items ≡ set_at lists n)
+      (so_far : AreCountedSoFar F c part_of lists n (items_of sets) (items_of numbers))
+      (counts : ClassCounts (flow_of F c part_of) (set_at lists n)) (conley : AreConleyNumbers F c (set_at lists n) number.items) where
     long : (rows : List (Vec ℕ Global)) (row : Vec ℕ Global) → length (items_of (rows ++ row ∷ [])) ≡ length (items_of rows) + 1
     long rows row = ap length (map-append (λ (r : Vec ℕ Global). r.items) rows (row ∷ [])) ∙ length-append (items_of rows) (row.items ∷ [])
 
@@ -51,7 +54,8 @@ module _ {F : Arithmetic} (c : Layout) (part_of : List ℕ) (lists : List (List 
     new i e = row_at_end sets set i (length (items_of sets)) refl e ∙ is
 
     earlier : (i : ℕ) → i < length (items_of sets) → slice_index (set_at (items_of sets) i) 0 < slice_index (set_at lists n) 0
-    earlier i lt = let w = so_far.come i lt in subst (λ (l : List ℕ). slice_index l 0 < slice_index (set_at lists n) 0) (sym w.2) (classes.in_order w.0 n w.1 below)
+    earlier i lt = let w = so_far.come i lt in subst (λ (l : List ℕ). slice_index l 0 < slice_index (set_at lists n) 0) (sym w.2)
+        (classes.in_order w.0 n w.1 below)
 
     pub counted_more : AreCountedSoFar F c part_of lists (n + 1) (items_of (sets ++ set ∷ [])) (items_of (numbers ++ number ∷ []))
     counted_more = record {

@@ -5,14 +5,14 @@ use Rattle.std.proofs.Math.Seq.{get_or-append_seam}
 use Rattle.std.proofs.lemmas.Bool.{cases_eq}
 use Rattle.std.proofs.lemmas.List.{get_or_append_left, get_or_default, length_push}
 use Rattle.std.proofs.lemmas.List.Elements.{All-nil, All-push, Contains-push, Contains-push_cases, Contains-append_left}
-use Rattle.conley_walk.specs.Lists.{items_of}
-use Rattle.conley_walk.proofs.ListLemmas.{row_of}
+use Rattle.conley_lists.specs.Lists.{items_of}
+use Rattle.conley_lists.proofs.ListLemmas.{row_of}
 use Rattle.conley_order.specs.ClassRows.{ClassRows, is_at_or_below, word_bit}
 use Rattle.conley_order.specs.LowerRows.{lower_by, AreLowerRows, IsLowerStill, IsCoverBy}
 use Rattle.conley_order.proofs.LowerRowLemmas.{cover_bits, lower-same}
-use Rattle.conley_transitions.specs.Field.{Field}
+use Rattle.conley_transitions.specs.Flow.{Flow}
 use Rattle.conley_transitions.specs.Morse.{set_at, IsReachOrder}
-use Rattle.conley_walk.specs.Pairs.{IsPairBefore, AreAscending}
+use Rattle.conley_lists.specs.Pairs.{IsPairBefore, AreAscending}
 use Rattle.conley_graph.specs.Covers.{AreCovers}
 use Rattle.conley_morse.specs.Covers.{IsBeforeRow, AreFirstCells, AreCoversSoFar, AddsCovers, lower_test}
 
@@ -90,7 +90,8 @@ module _ (old new : List (ℕ × ℕ)) (lower between : List ℕ) (p n : ℕ) (s
   }
 
 -- the covers from one set more
-pub covers_more : (test : ℕ → ℕ → Bool) (m n : ℕ) (lists : List (List ℕ)) (words : List ℕ) (old new : List (ℕ × ℕ)) → AreLowerRows test m m lists → n < m → IsLowerStill lists n words →
+pub covers_more : (test : ℕ → ℕ → Bool) (m n : ℕ) (lists : List (List ℕ)) (words : List ℕ) (old new : List (ℕ × ℕ)) → AreLowerRows test m m lists → n < m
+    → IsLowerStill lists n words →
     AreCoversSoFar test m n old → AddsCovers old new (get_or lists n []) words n m → AreCoversSoFar test m (n + 1) new
 covers_more test m n lists words old new are lt still so_far adds = record {
   covers = λ p q. (
@@ -118,8 +119,9 @@ covers_none test m = record {
 }
 
 -- covers by the test of reach are covers of reach
-pub covers_of_reach : (field : Field) (sets : List (List ℕ)) (test : ℕ → ℕ → Bool) (order : List (ℕ × ℕ)) → IsReachOrder field sets test → AreCoversSoFar test (length sets) (length sets) order → AreCovers field sets order
-covers_of_reach field sets test order reach all = record {
+pub covers_of_reach : (flow : Flow) (sets : List (List ℕ)) (test : ℕ → ℕ → Bool) (order : List (ℕ × ℕ)) → IsReachOrder flow sets test
+    → AreCoversSoFar test (length sets) (length sets) order → AreCovers flow sets order
+covers_of_reach flow sets test order reach all = record {
   covers = λ p q. (
     (λ h.
         let c = ((all.covers p q).0 h).1 in
@@ -148,7 +150,8 @@ covers_of_reach field sets test order reach all = record {
 }
 
 -- what is read is the first cell of a set
-pub first_read : (sets : List (Vec ℕ Global)) (q : ℕ) (set : Vec ℕ Global) (x : ℕ) → q < length sets → set ≡ get_or sets q set → 0 < length (get_or (items_of sets) q []) → x ≡ get_or set.items 0 x → get_or (get_or (items_of sets) q []) 0 0 ≡ x
+pub first_read : (sets : List (Vec ℕ Global)) (q : ℕ) (set : Vec ℕ Global) (x : ℕ) → q < length sets → set ≡ get_or sets q set
+    → 0 < length (get_or (items_of sets) q []) → x ≡ get_or set.items 0 x → get_or (get_or (items_of sets) q []) 0 0 ≡ x
 first_read sets q set x lt is some at =
     let row = row_of sets q set lt is in
     let long : 0 < length set.items = omega (arith, some, ap length row) in
@@ -158,17 +161,21 @@ first_read sets q set x lt is some at =
 pub none_first : (rows : ClassRows) (sets : List (List ℕ)) → AreFirstCells rows sets 0 []
 none_first rows sets = record { count = refl; first = λ i below. absurd (omega arith); cells = All-nil (λ x. x < length rows.class_of) }
 
-pub first_more : (rows : ClassRows) (sets : List (List ℕ)) (n : ℕ) (firsts : List ℕ) (x : ℕ) → AreFirstCells rows sets n firsts → slice_index (set_at sets n) 0 ≡ x → x < length rows.class_of → AreFirstCells rows sets (n + 1) (firsts ++ x ∷ [])
+pub first_more : (rows : ClassRows) (sets : List (List ℕ)) (n : ℕ) (firsts : List ℕ) (x : ℕ) → AreFirstCells rows sets n firsts
+    → slice_index (set_at sets n) 0 ≡ x → x < length rows.class_of → AreFirstCells rows sets (n + 1) (firsts ++ x ∷ [])
 first_more rows sets n firsts x so_far read cell = record {
   count = length_push firsts x ∙ ap (λ k. k + 1) so_far.count;
   first = λ i below. elim (cases_eq i n) [
-    | inl last ↦ ap (λ k. get_or (firsts ++ x ∷ []) k 0) (last ∙ sym so_far.count) ∙ get_or-append_seam firsts x [] 0 ∙ sym read ∙ ap (λ k. get_or (set_at sets k) 0 0) (sym last)
+    | inl last ↦ ap (λ k. get_or (firsts ++ x ∷ []) k 0) (last ∙ sym so_far.count) ∙ get_or-append_seam firsts x [] 0 ∙ sym read
+        ∙ ap (λ k. get_or (set_at sets k) 0 0) (sym last)
     | inr other ↦ get_or_append_left firsts (x ∷ []) 0 i (omega (arith, below, so_far.count)) ∙ so_far.first i (omega arith)
   ];
   cells = All-push (λ x. x < length rows.class_of) firsts x so_far.cells cell;
 }
 
 -- rows by first cells are rows by sets
-pub lower_by_sets : (rows : ClassRows) (sets : List (List ℕ)) (m : ℕ) (firsts : List ℕ) (lists : List (List ℕ)) → AreFirstCells rows sets m firsts → AreLowerRows (lower_by (is_at_or_below rows) firsts) m m lists → AreLowerRows (lower_test rows sets) m m lists
+pub lower_by_sets : (rows : ClassRows) (sets : List (List ℕ)) (m : ℕ) (firsts : List ℕ) (lists : List (List ℕ)) → AreFirstCells rows sets m firsts
+    → AreLowerRows (lower_by (is_at_or_below rows) firsts) m m lists → AreLowerRows (lower_test rows sets) m m lists
 lower_by_sets rows sets m firsts lists are lower = lower-same (lower_by (is_at_or_below rows) firsts) (lower_test rows sets) m m lists lower (λ p q lp lq.
-    ap (λ x. not (p == q) && is_at_or_below rows x (slice_index firsts p)) (are.first q lq) ∙ ap (λ y. not (p == q) && is_at_or_below rows (slice_index (set_at sets q) 0) y) (are.first p lp))
+    ap (λ x. not (p == q) && is_at_or_below rows x (slice_index firsts p)) (are.first q lq)
+    ∙ ap (λ y. not (p == q) && is_at_or_below rows (slice_index (set_at sets q) 0) y) (are.first p lp))

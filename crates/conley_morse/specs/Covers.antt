@@ -5,11 +5,12 @@
 --     AreCoversSoFar test m n order    the covers from the first n of m, ascending
 --     IsBeforeRow order p              the first numbers of the pairs are below p
 --     AddsCovers old new lower between p n   the pairs of p and each of the first n sets that is lower and not between
-use Rattle.std.specs.Prelude.{◌≡◌, ◌≢◌, ◌⊎◌, ◌↔◌, ◌<◌, ◌==◌, ◌&&◌, not, ℕ, Bool, List, All, Contains, length, slice_index, slice_index_or}
+use Rattle.std.specs.Prelude.{◌≡◌, ◌≢◌, ◌⊎◌, ◌↔◌, ◌<◌, ◌==◌, ◌&&◌, not, ℕ, Bool, List, Contains, length, slice_index, slice_index_or}
 use Rattle.conley_order.specs.ClassRows.{ClassRows, is_at_or_below, word_bit}
 use Rattle.conley_order.specs.LowerRows.{IsCoverBy}
 use Rattle.conley_transitions.specs.Morse.{set_at}
-use Rattle.conley_walk.specs.Pairs.{IsPairBefore, AreAscending}
+use Rattle.conley_lists.specs.Pairs.{IsPairBefore, AreAscending}
+use Rattle.conley_lists.specs.Lists.{AllBelow}
 
 abbrev pub lower_test : ClassRows → List (List ℕ) → ℕ → ℕ → Bool
 lower_test rows sets q p = not (p == q) && is_at_or_below rows (slice_index (set_at sets q) 0) (slice_index (set_at sets p) 0)
@@ -23,7 +24,7 @@ IsBeforeRow order p = (i : ℕ) → i < length order → (slice_index_or order i
 pub record AreFirstCells (rows : ClassRows) (sets : List (List ℕ)) (n : ℕ) (firsts : List ℕ) : Type 0 where
   pub count : length firsts ≡ n
   pub first : (i : ℕ) → i < n → slice_index firsts i ≡ slice_index (set_at sets i) 0
-  pub cells : All (λ x. x < length rows.class_of) firsts
+  pub cells : AllBelow (length rows.class_of) firsts
 
 -- the covers from the first n of m
 pub record AreCoversSoFar (test : ℕ → ℕ → Bool) (m n : ℕ) (order : List (ℕ × ℕ)) : Type 0 where

@@ -1,17 +1,17 @@
 //! Which classes count, and their Conley numbers.
 
-ghost use Rattle.std.specs.Prelude.{◌≡◌, ◌⊎◌, ◌<◌, ◌↔◌, All, IfOk, IfSome, IfNone, IsTrue, true, false, length};
-ghost use Rattle.conley_walk.specs.Lists.{items_of};
+ghost use Rattle.std.specs.Prelude.{◌≡◌, ◌⊎◌, ◌<◌, All, IfOk, IfSome, IfNone, true, false, length};
+ghost use Rattle.conley_lists.specs.Lists.{items_of};
 ghost use Rattle.conley_faces.specs.Face.{IsCellList, IsLocallyClosed};
 ghost use Rattle.conley_lefschetz.specs.Conley.{IsRegular, AreConleyNumbers};
 ghost use Rattle.conley_transitions.specs.Classes.{AreRecurrenceClasses};
-ghost use Rattle.conley_transitions.specs.Field.{IsField};
-ghost use Rattle.conley_graph.specs.Decomposition.{field_of};
+ghost use Rattle.conley_transitions.specs.Flow.{IsFlow};
+ghost use Rattle.conley_graph.specs.Decomposition.{flow_of};
 ghost use Rattle.conley_morse.specs.Making.{LiesInOnePart, HasTwoParts, AreCountedSoFar};
 
 use crate::NoMemory;
 use conley_field::Field;
-use conley_homology::numbers;
+use conley_homology::{are_zero, numbers};
 use conley_lefschetz::Complex;
 use conley_mvf::Partition;
 use std::alloc::Global;
@@ -32,13 +32,6 @@ fn lies_in_one_part(partition: &Partition, class: &[u32]) -> bool
     true
 }
 
-/// Whether all numbers are 0.
-fn are_zero(numbers: &[u32]) -> bool
-    ensures { IsTrue result ↔ All (λ r. r ≡ 0) numbers.now }
-{
-    numbers.iter().all(|r| *r == 0)
-}
-
 /// The Conley numbers of a class where it has two parts or isn't regular.
 fn numbers_where_counted<F: Field>(
     alloc: Global,
@@ -51,8 +44,10 @@ fn numbers_where_counted<F: Field>(
     requires set { IsCellList complex.now.1.faces class.now }
     requires closed { IsLocallyClosed complex.now.1.faces class.now }
     ensures numbers { IfOk result (λ answer. IfSome answer (λ numbers. AreConleyNumbers (F.arithmetic complex.now.0) complex.now.1 class.now numbers.items)) }
-    ensures counted { IfOk result (λ answer. IfSome answer (λ numbers. HasTwoParts partition.now class.now ⊎ (LiesInOnePart partition.now class.now × ¬ IsRegular (F.arithmetic complex.now.0) complex.now.1 class.now))) }
-    ensures passed { IfOk result (λ answer. IfNone answer (LiesInOnePart partition.now class.now × IsRegular (F.arithmetic complex.now.0) complex.now.1 class.now)) }
+    ensures counted { IfOk result (λ answer. IfSome answer (λ numbers. HasTwoParts partition.now class.now
+        ⊎ (LiesInOnePart partition.now class.now × ¬ IsRegular (F.arithmetic complex.now.0) complex.now.1 class.now))) }
+    ensures passed { IfOk result (λ answer. IfNone answer (LiesInOnePart partition.now class.now
+        × IsRegular (F.arithmetic complex.now.0) complex.now.1 class.now)) }
 {
     let numbers = numbers(alloc, complex, class)?;
     if !lies_in_one_part(partition, class) {
@@ -71,9 +66,10 @@ pub(crate) fn counted<F: Field>(
     partition: &Partition,
     classes: Vec<Vec<u32>>,
 ) -> Result<(Vec<Vec<u32>>, Vec<Vec<u32>>), NoMemory>
-    requires field { IsField (field_of (F.arithmetic complex.now.0) complex.now.1 partition.now) }
+    requires field { IsFlow (flow_of (F.arithmetic complex.now.0) complex.now.1 partition.now) }
     requires classes { AreRecurrenceClasses complex.now.1.faces partition.now (items_of classes.items) }
-    ensures { IfOk result (λ p. AreCountedSoFar (F.arithmetic complex.now.0) complex.now.1 partition.now (items_of classes.items) (length classes.items) (items_of p.0.items) (items_of p.1.items)) }
+    ensures { IfOk result (λ p. AreCountedSoFar (F.arithmetic complex.now.0) complex.now.1 partition.now (items_of classes.items) (length classes.items)
+        (items_of p.0.items) (items_of p.1.items)) }
 {
     let mut sets = Vec::new(alloc);
     let mut numbers = Vec::new(alloc);

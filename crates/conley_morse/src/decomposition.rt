@@ -2,7 +2,7 @@
 
 ghost use Rattle.std.specs.Prelude.{◌≡◌, ◌<◌, ◌≤◌, ◌↔◌, ℕ, true, IfOk, length};
 ghost use Rattle.conley_walk.specs.Walk.{Reaches};
-ghost use Rattle.conley_walk.specs.Lists.{items_of};
+ghost use Rattle.conley_lists.specs.Lists.{items_of};
 ghost use Rattle.conley_mvf.specs.Partition.{IsMultivectorField};
 ghost use Rattle.conley_order.specs.ClassRows.{is_at_or_below};
 ghost use Rattle.conley_transitions.specs.Step.{Step};
@@ -13,10 +13,10 @@ use crate::counting::counted;
 use crate::order::covers;
 use conley_field::Field;
 use conley_lefschetz::Complex;
+use conley_lists::gathered;
 use conley_mvf::Partition;
 use conley_order::ReachRows;
 use conley_transitions::transitions;
-use conley_walk::gathered;
 use std::alloc::Global;
 
 /// The most sets that are given.
@@ -43,16 +43,18 @@ pub fn morse<F: Field>(
     partition: &Partition,
 ) -> Result<Decomposition, MorseError>
     requires { IsMultivectorField complex.now.1.faces partition.now }
-    ensures graph { IfOk result (λ d. IsConleyMorseGraph (F.arithmetic complex.now.0) complex.now.1 partition.now (items_of d.sets.items) (items_of d.numbers.items) d.order.items) }
+    ensures graph { IfOk result (λ d. IsConleyMorseGraph (F.arithmetic complex.now.0) complex.now.1 partition.now (items_of d.sets.items)
+        (items_of d.numbers.items) d.order.items) }
     ensures few { IfOk result (λ d. length d.sets.items ≤ 2000) }
     ensures grading_count { IfOk result (λ d. length d.grading.class_of ≡ length partition.now) }
-    ensures grading { IfOk result (λ d. (a b : ℕ) → a < length partition.now → b < length partition.now → (is_at_or_below d.grading a b ≡ true) ↔ Reaches (Step complex.now.1.faces partition.now) b a) }
+    ensures grading { IfOk result (λ d. (a b : ℕ) → a < length partition.now → b < length partition.now → (is_at_or_below d.grading a b ≡ true)
+        ↔ Reaches (Step complex.now.1.faces partition.now) b a) }
     ensures too_many { (n : ℕ) → result ≡ Err (MorseError.TooManyMorse n) → HasTooManySets (F.arithmetic complex.now.0) complex.now.1 partition.now n }
 {
     let faces = complex.faces();
-    let _cells = faces.count();
+    let _order = faces.count();
     let digraph = transitions(alloc, faces, partition)?;
-    let _nodes = digraph.count();
+    let _heads = digraph.count();
     let grading = digraph.reach_rows(alloc)?;
     let classes = gathered(alloc, grading.classes())?;
     let (sets, numbers) = counted(alloc, complex, partition, classes)?;

@@ -1,8 +1,8 @@
 //! The covers of reach between sets.
 
 ghost use Rattle.std.specs.Prelude.{◌*◌, ◌<◌, ◌≤◌, ◌^◌, IfOk, OnOk, length};
-ghost use Rattle.conley_walk.specs.Lists.{items_of};
-ghost use Rattle.conley_walk.specs.Pairs.{AreAscending};
+ghost use Rattle.conley_lists.specs.Lists.{items_of};
+ghost use Rattle.conley_lists.specs.Pairs.{AreAscending};
 ghost use Rattle.conley_morse.specs.Covers.{AreCoversSoFar, lower_test, HaveFirstCells, AreFirstCells, IsBeforeRow, AddsCovers};
 
 use crate::NoMemory;

@@ -2,8 +2,8 @@
 use Rattle.std.proofs.Common.{inl, inr, ◌<◌, ℕ, List, [], ◌∷◌, Option, Some, None, length, get_or, subst}
 use Rattle.std.specs.Prelude.{Contains, ◌↔◌}
 use Rattle.conley_first.specs.First.{Precedes}
-use Rattle.conley_walk.specs.Lists.{ListedStep}
-use Rattle.conley_walk.proofs.ListLemmas.{step_begins}
+use Rattle.conley_lists.specs.Lists.{ListedStep}
+use Rattle.conley_lists.proofs.ListLemmas.{step_begins}
 use Rattle.conley_faces.specs.Face.{IsGap, IsFirstGap, IsTripleBefore}
 use Rattle.conley_mvf.specs.Making.{FindsFirstGap}
 
@@ -24,7 +24,8 @@ triple_before x y z a b c (inr (e, inr (e', inl less))) = inr (e, inr (e', less)
 triple_before x y z a b c (inr (e, inr (e', inr both))) = absurd both.1
 
 -- the first gap of a list, where no earlier list has one
-pub gap_here : (faces lists : List (List ℕ)) (k : ℕ) (t : ℕ × ℕ × ℕ) → IsFirstGap faces (get_or lists k []) t → ((j : ℕ) → j < k → (x y z : ℕ) → ¬ IsGap faces (get_or lists j []) x y z) →
+pub gap_here : (faces lists : List (List ℕ)) (k : ℕ) (t : ℕ × ℕ × ℕ) → IsFirstGap faces (get_or lists k []) t
+    → ((j : ℕ) → j < k → (x y z : ℕ) → ¬ IsGap faces (get_or lists j []) x y z) →
     FindsFirstGap (λ k. IsGap faces (get_or lists k [])) (Some (k, t))
 gap_here faces lists k t first before = (
   first.gap,
@@ -39,8 +40,10 @@ pub gap_listed : (faces lists : List (List ℕ)) (k x y z : ℕ) → IsGap faces
 gap_listed faces lists k x y z g = step_begins lists k x g.upper
 
 -- lists with the same cells have the same first gap
-pub gaps_of_same : (faces lists parts : List (List ℕ)) → ((k x : ℕ) → ListedStep lists k x ↔ ListedStep parts k x) → (answer : Option (ℕ × (ℕ × ℕ × ℕ))) → FindsFirstGap (λ k. IsGap faces (get_or lists k [])) answer → FindsFirstGap (λ k. IsGap faces (get_or parts k [])) answer
-gaps_of_same faces lists parts same None none = λ k x y z g. none k x y z (gap_of_same faces (get_or parts k []) (get_or lists k []) (λ q. ((same k q).1, (same k q).0)) x y z g)
+pub gaps_of_same : (faces lists parts : List (List ℕ)) → ((k x : ℕ) → ListedStep lists k x ↔ ListedStep parts k x) → (answer : Option (ℕ × (ℕ × ℕ × ℕ)))
+    → FindsFirstGap (λ k. IsGap faces (get_or lists k [])) answer → FindsFirstGap (λ k. IsGap faces (get_or parts k [])) answer
+gaps_of_same faces lists parts same None none = λ k x y z g. none k x y z (gap_of_same faces (get_or parts k []) (get_or lists k [])
+    (λ q. ((same k q).1, (same k q).0)) x y z g)
 gaps_of_same faces lists parts same (Some (k, t)) found = (
   gap_of_same faces (get_or lists k []) (get_or parts k []) (same k) t.0 t.1 t.2 found.0,
   λ l x y z p g. found.1 l x y z p (gap_of_same faces (get_or parts l []) (get_or lists l []) (λ q. ((same l q).1, (same l q).0)) x y z g),

@@ -1,19 +1,13 @@
 -- Marking the cells of parts, one list after another
-use Rattle.std.proofs.Common.{◌≡◌, inl, inr, ◌+◌, ◌<◌, ◌≤◌, ℕ, List, [], Bool, Some, None, length, get_or, refl, sym, ◌∙◌, subst, ap, arith}
+use Rattle.std.proofs.Common.{◌≡◌, inl, inr, ◌+◌, ◌<◌, ◌≤◌, ℕ, List, [], Bool, Some, None, length, get_or, refl, sym, ◌∙◌, subst, arith}
 use Rattle.std.specs.Prelude.{Contains, slice_index}
-use Rattle.std.proofs.lemmas.Bool.{cases_lt, cases_order}
-use Rattle.std.proofs.lemmas.List.{get_or_past, get_or_default}
-use Rattle.conley_walk.specs.Lists.{IsMarked}
-use Rattle.conley_mvf.specs.Making.{FindsFirst}
+use Rattle.std.proofs.lemmas.Bool.{cases_order}
+use Rattle.std.proofs.lemmas.List.{get_or_default}
+use Rattle.conley_first.specs.Places.{FindsFirst}
+use Rattle.conley_lists.specs.Lists.{IsMarked}
+use Rattle.conley_lists.proofs.ListLemmas.{at_list}
 use Rattle.conley_mvf.specs.Making.{IsKnown, MarksPart, MarkedSoFar}
 use Rattle.conley_mvf.specs.Fault.{IsAt, StoodEarlier}
-
--- a place is in a list that there is
-pub at_list : {A : Type 0} (lists : List (List A)) (l p : ℕ) → p < length (get_or lists l []) → l < length lists
-at_list {A} lists l p lt = elim (cases_lt l (length lists)) [
-  | inl less ↦ less
-  | inr past ↦ let e : get_or lists l [] ≡ [] = get_or_past lists l [] past in absurd (omega (arith, ap length e))
-]
 
 -- each number of the list, by its place
 pub all_below : (xs : List ℕ) (n : ℕ) → ((x : ℕ) → Contains xs x → x < n) → (k d : ℕ) → k < length xs → get_or xs k d < n

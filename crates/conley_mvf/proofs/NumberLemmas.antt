@@ -6,7 +6,8 @@ use Rattle.std.proofs.lemmas.Bool.{cases_eq, cases_order}
 use Rattle.std.proofs.lemmas.List.{get_or_append_left}
 use Rattle.conley_mvf.specs.Making.{AreLeast, NumbersSoFar}
 
-module _ (least : List ℕ) (n : ℕ) (part_of : List ℕ) (next : ℕ) (lt : n < length least) (are : AreLeast least) (so_far : NumbersSoFar least n part_of next) where
+module _ (least : List ℕ) (n : ℕ) (part_of : List ℕ) (next : ℕ) (lt : n < length least) (are : AreLeast least)
+    (so_far : NumbersSoFar least n part_of next) where
   -- what one number more is read as
   at_end : (p : ℕ) → slice_index (part_of ++ p ∷ []) n ≡ p
   at_end p = ap (slice_index (part_of ++ p ∷ [])) (sym so_far.count) ∙ get_or-append_seam part_of p [] 0
@@ -35,13 +36,27 @@ module _ (least : List ℕ) (n : ℕ) (part_of : List ℕ) (next : ℕ) (lt : n 
         | inl ex ↦ elim (cases_eq y n) [
           | inl ey ↦ ((λ _. ap (slice_index least) (ex ∙ sym ey)), (λ _. ap (slice_index (part_of ++ next ∷ [])) (ex ∙ sym ey)))
           | inr ny ↦ (
-            (λ e. absurd (omega (arith, e, ap (slice_index (part_of ++ next ∷ [])) ex, at_end next, before next y (omega arith), so_far.below y (omega arith)))),
+            (λ e. absurd (omega (
+              arith,
+              e,
+              ap (slice_index (part_of ++ next ∷ [])) ex,
+              at_end next,
+              before next y (omega arith),
+              so_far.below y (omega arith),
+            ))),
             (λ e. absurd (apart y (omega arith) (sym (ap (slice_index least) ex) ∙ e))),
           )
         ]
         | inr nx ↦ elim (cases_eq y n) [
           | inl ey ↦ (
-            (λ e. absurd (omega (arith, e, ap (slice_index (part_of ++ next ∷ [])) ey, at_end next, before next x (omega arith), so_far.below x (omega arith)))),
+            (λ e. absurd (omega (
+              arith,
+              e,
+              ap (slice_index (part_of ++ next ∷ [])) ey,
+              at_end next,
+              before next x (omega arith),
+              so_far.below x (omega arith),
+            ))),
             (λ e. absurd (apart x (omega arith) (sym (ap (slice_index least) ey) ∙ sym e))),
           )
           | inr ny ↦
@@ -64,7 +79,11 @@ module _ (least : List ℕ) (n : ℕ) (part_of : List ℕ) (next : ℕ) (lt : n 
   -- it has an earlier least cell, and the number of that one
   module _ (old : slice_index least n ≢ n) where
     pub first_before : slice_index least n < n
-    first_before = elim (cases_order (slice_index least n) n) [ inl e ↦ absurd (old e) | inr other ↦ elim other [ inl less ↦ less | inr more ↦ absurd (omega (arith, are.low n lt)) ] ]
+    first_before = elim (cases_order (slice_index least n) n) [
+      | inl e ↦ absurd (old e)
+      | inr other ↦ elim other
+          [ inl less ↦ less | inr more ↦ absurd (omega (arith, are.low n lt)) ]
+    ]
 
     pub numbers-old : (p : ℕ) → p ≡ slice_index part_of (slice_index least n) → NumbersSoFar least (n + 1) (part_of ++ p ∷ []) next
     numbers-old p is = record {
@@ -87,7 +106,8 @@ module _ (least : List ℕ) (n : ℕ) (part_of : List ℕ) (next : ℕ) (lt : n 
     }
       where
         -- an earlier cell, no later than x, with the part and the least cell of x
-        twin : (x : ℕ) → x < n + 1 → (r : ℕ) × (r < n) × (slice_index part_of r ≡ slice_index (part_of ++ p ∷ []) x) × (slice_index least r ≡ slice_index least x) × (r ≤ x)
+        twin : (x : ℕ) → x < n + 1 → (r : ℕ) × (r < n) × (slice_index part_of r ≡ slice_index (part_of ++ p ∷ []) x)
+            × (slice_index least r ≡ slice_index least x) × (r ≤ x)
         twin x lx = elim (cases_eq x n) [
           | inl e ↦ (
             slice_index least n,

@@ -4,23 +4,29 @@ use Rattle.std.specs.Prelude.{◌↔◌, slice_index}
 use Rattle.std.proofs.lemmas.Bool.{cases_lt, cases_order}
 use Rattle.std.proofs.lemmas.List.{get_or_past}
 use Rattle.std.proofs.lemmas.List.Concat.{flat_map-cons}
+use Rattle.conley_first.specs.Places.{FindsFirst}
 use Rattle.conley_walk.specs.Walk.{Reaches}
-use Rattle.conley_walk.specs.Lists.{ListedStep, entries_of, IsOrderedCopy}
+use Rattle.conley_lists.specs.Lists.{ListedStep, entries_of, IsOrderedCopy}
 use Rattle.conley_walk.proofs.WalkLemmas.{reaches_on}
-use Rattle.conley_walk.proofs.ListLemmas.{place_of, All-from_contained}
+use Rattle.conley_lists.proofs.ListLemmas.{place_of, All-from_contained}
 use Rattle.conley_faces.specs.Face.{IsGap, IsCellList}
 use Rattle.conley_faces.specs.FaceOrder.{IsFaceOrder}
 use Rattle.conley_faces.proofs.FaceLemmas.{face_cases, face_ends}
 use Rattle.conley_mvf.specs.Partition.{IsPartition, IsMultivectorField, ShareAList, IsWhole}
 use Rattle.conley_mvf.specs.Fault.{IsUnknown, StoodEarlier}
-use Rattle.conley_mvf.specs.Making.{FindsFirst, FindsFirstGap, TellsFirst, AreLeast, NumbersSoFar}
+use Rattle.conley_mvf.specs.Making.{FindsFirstGap, TellsFirst, AreLeast, NumbersSoFar}
 use Rattle.conley_mvf.proofs.FirstsLemmas.{IsOnce, are_least, one_first}
 
 -- a list is no longer than all lists
 pub list_within_entries : (lists : List (List ℕ)) (k : ℕ) → length (get_or lists k []) ≤ length (entries_of lists)
 list_within_entries [] k = let e : get_or {A = List ℕ} [] k [] ≡ [] = get_or_past {X = List ℕ} [] k [] (omega arith) in omega (arith, ap length e)
 list_within_entries (l ∷ lists) zero = omega (arith, ap length (flat_map-cons (λ (r : List ℕ). r) l lists), length-append l (entries_of lists))
-list_within_entries (l ∷ lists) (suc k) = omega (arith, ap length (flat_map-cons (λ (r : List ℕ). r) l lists), length-append l (entries_of lists), list_within_entries lists k)
+list_within_entries (l ∷ lists) (suc k) = omega (
+  arith,
+  ap length (flat_map-cons (λ (r : List ℕ). r) l lists),
+  length-append l (entries_of lists),
+  list_within_entries lists k,
+)
 
 -- where no number is unknown, all are cells
 pub all_known : (n : ℕ) (lists : List (List ℕ)) → FindsFirst (IsUnknown n lists) None → (k x : ℕ) → ListedStep lists k x → x < n
@@ -43,7 +49,8 @@ all_once lists none k l x a b = elim (cases_order k l) [
         none j q.0 (i, p.0, x, (q.1, q.2), (p.1, p.2), inl less)
 
 -- lists in order that have cells alone are cell lists
-pub cell_lists : (faces copy lists : List (List ℕ)) → IsOrderedCopy copy lists → ((k x : ℕ) → ListedStep lists k x → x < length faces) → (k : ℕ) → IsCellList faces (get_or copy k [])
+pub cell_lists : (faces copy lists : List (List ℕ)) → IsOrderedCopy copy lists → ((k x : ℕ) → ListedStep lists k x → x < length faces) → (k : ℕ)
+    → IsCellList faces (get_or copy k [])
 cell_lists faces copy lists ordered known k = record {
   ascending = ordered.ascending k;
   cells = All-from_contained (λ x. x < length faces) (get_or copy k []) (λ x c. known k x ((ordered.same k x).0 c));
@@ -51,7 +58,11 @@ cell_lists faces copy lists ordered known k = record {
 
 -- numbers of cells that have one first cell are numbers of parts
 pub is_partition : (least part_of : List ℕ) (next : ℕ) → length least < 2 ^ 32 → NumbersSoFar least (length least) part_of next → IsPartition part_of
-is_partition least part_of next few numbers = record { few = omega (arith, numbers.count); in_order = λ x k lt. numbers.in_order x k (omega (arith, numbers.count)) }
+is_partition least part_of next few numbers = record {
+  few = omega (arith, numbers.count);
+  in_order =
+      λ x k lt. numbers.in_order x k (omega (arith, numbers.count));
+}
 
 is_whole : (copy lists : List (List ℕ)) (least part_of : List ℕ) (next : ℕ) → IsOrderedCopy copy lists → NumbersSoFar least (length least) part_of next →
     ((x y : ℕ) → x < length least → y < length least → (slice_index least x ≡ slice_index least y) ↔ ((x ≡ y) ⊎ ShareAList copy x y)) → IsWhole lists part_of
@@ -65,7 +76,8 @@ is_whole copy lists least part_of next ordered numbers first x y lx ly =
     )
 
 -- parts that are lists without a gap, or one cell, are locally closed
-pub are_closed : (faces lists : List (List ℕ)) (part_of : List ℕ) → IsFaceOrder faces → length part_of ≡ length faces → IsWhole lists part_of → FindsFirstGap (λ k. IsGap faces (get_or lists k [])) None → IsMultivectorField faces part_of
+pub are_closed : (faces lists : List (List ℕ)) (part_of : List ℕ) → IsFaceOrder faces → length part_of ≡ length faces → IsWhole lists part_of
+    → FindsFirstGap (λ k. IsGap faces (get_or lists k [])) None → IsMultivectorField faces part_of
 are_closed faces lists part_of order count whole none = record {
   count = count;
   closed = λ p cells are x y z gap.
@@ -89,7 +101,8 @@ are_closed faces lists part_of order count whole none = record {
 }
 
 -- what the steps made of lists without an unknown number or one that stood earlier, over a copy in order
-module _ (cells : ℕ) (lists copy : List (List ℕ)) (ordered : IsOrderedCopy copy lists) (unknown : FindsFirst (IsUnknown cells lists) None) (earlier : FindsFirst (StoodEarlier lists) None) (least : List ℕ) (tells : TellsFirst copy (length copy) cells least) where
+module _ (cells : ℕ) (lists copy : List (List ℕ)) (ordered : IsOrderedCopy copy lists) (unknown : FindsFirst (IsUnknown cells lists) None)
+    (earlier : FindsFirst (StoodEarlier lists) None) (least : List ℕ) (tells : TellsFirst copy (length copy) cells least) where
   within : (k x : ℕ) → ListedStep copy k x → x < cells
   within k x s = all_known cells lists unknown k x ((ordered.same k x).0 s)
 
@@ -101,4 +114,5 @@ module _ (cells : ℕ) (lists copy : List (List ℕ)) (ordered : IsOrderedCopy c
 
   pub numbers_are_whole : (part_of : List ℕ) (next : ℕ) → NumbersSoFar least (length least) part_of next → IsWhole lists part_of
   numbers_are_whole part_of next numbers =
-      is_whole copy lists least part_of next ordered numbers (λ x y lx ly. one_first copy cells least within ordered.ascending once tells x y (omega (arith, tells.count)) (omega (arith, tells.count)))
+      is_whole copy lists least part_of next ordered numbers (λ x y lx ly. one_first copy cells least within ordered.ascending once tells x y
+      (omega (arith, tells.count)) (omega (arith, tells.count)))

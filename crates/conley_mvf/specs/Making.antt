@@ -1,7 +1,5 @@
 -- What the steps that make a partition say of what they made; no public clause cites it.
---     FindsFirst P answer            the first pair of numbers at which P holds, if there is one
---     FindsFirstPlace n P answer     the same over one number below n
---     FindsFirstGap P answer         the same over a number and a triple
+--     FindsFirstGap P answer         the first number and triple at which P holds, if there is one
 --     IsKnown seen part k            number k of the part has a mark or stands before in the part
 --     MarksPart part seen seen' answer   the first number that is known; where there is none, all are marked besides
 --     MarkedSoFar lists n seen       the marks are those of the first n lists, of which no number stood earlier
@@ -15,18 +13,10 @@
 --     IsPartitionTable part_of cells what a value of `Partition` keeps
 use Rattle.std.specs.Prelude.{◌≡◌, ◌≢◌, ◌⊎◌, ◌↔◌, ◌<◌, ◌≤◌, ℕ, List, [], ◌∷◌, Bool, Option, Some, None, Contains, length, slice_index, slice_index_or}
 use Rattle.conley_first.specs.First.{Precedes}
-use Rattle.conley_walk.specs.Lists.{IsMarked, ListedStep}
-use Rattle.conley_walk.specs.Gathered.{AreGathered}
+use Rattle.conley_lists.specs.Lists.{IsMarked, ListedStep, KeepsOthers}
+use Rattle.conley_lists.specs.Gathered.{AreGathered, IsNumberedUpTo, StayBelow, AreTaken, AreToldApart, AreToldBy}
 use Rattle.conley_mvf.specs.Fault.{IsAt, StoodEarlier}
 use Rattle.conley_mvf.specs.Partition.{IsPartition}
-
-abbrev pub FindsFirst : (ℕ → ℕ → Type 0) → Option (ℕ × ℕ) → Type 0
-FindsFirst P None = (l q : ℕ) → ¬ P l q
-FindsFirst P (Some p) = P p.0 p.1 × ((l q : ℕ) → Precedes (l ∷ q ∷ []) (p.0 ∷ p.1 ∷ []) → ¬ P l q)
-
-abbrev pub FindsFirstPlace : ℕ → (ℕ → Type 0) → Option ℕ → Type 0
-FindsFirstPlace n P None = (j : ℕ) → j < n → ¬ P j
-FindsFirstPlace n P (Some k) = (k < n) × P k × ((j : ℕ) → j < k → ¬ P j)
 
 abbrev pub FindsFirstGap : (ℕ → ℕ → ℕ → ℕ → Type 0) → Option (ℕ × (ℕ × ℕ × ℕ)) → Type 0
 FindsFirstGap P None = (k x y z : ℕ) → ¬ P k x y z
@@ -53,11 +43,12 @@ first_in lists k = slice_index (slice_index_or lists k []) 0
 pub record PutsFirst (old new list : List ℕ) : Type 0 where
   pub count : length new ≡ length old
   pub put : (x : ℕ) → Contains list x → slice_index new x ≡ slice_index list 0
-  pub kept : (x : ℕ) → ¬ Contains list x → slice_index new x ≡ slice_index old x
+  pub kept : KeepsOthers list old new
 
 pub record TellsFirst (lists : List (List ℕ)) (n cells : ℕ) (least : List ℕ) : Type 0 where
   pub count : length least ≡ cells
-  pub cases : (x : ℕ) → x < cells → ((slice_index least x ≡ x) × ((k : ℕ) → k < n → ¬ ListedStep lists k x)) ⊎ ((k : ℕ) × (k < n) × ListedStep lists k x × (slice_index least x ≡ first_in lists k))
+  pub cases : (x : ℕ) → x < cells → ((slice_index least x ≡ x) × ((k : ℕ) → k < n → ¬ ListedStep lists k x))
+      ⊎ ((k : ℕ) × (k < n) × ListedStep lists k x × (slice_index least x ≡ first_in lists k))
 
 pub record AreLeast (least : List ℕ) : Type 0 where
   pub low : (x : ℕ) → x < length least → slice_index least x ≤ x
@@ -69,20 +60,20 @@ pub record FirstsSoFar (labels : List ℕ) (n : ℕ) (first least : List ℕ) : 
   pub firsts : (p : ℕ) → p < length labels →
       ((slice_index first p ≡ length labels) × ((y : ℕ) → y < n → slice_index labels y ≢ p))
       ⊎ ((slice_index first p < n) × (slice_index labels (slice_index first p) ≡ p) × ((y : ℕ) → y < n → slice_index labels y ≡ p → slice_index first p ≤ y))
-  pub told : (y : ℕ) → y < n → slice_index least y ≡ slice_index first (slice_index labels y)
+  pub told : AreToldBy first labels n least
 
 pub record TellsFirstByLabel (labels least : List ℕ) : Type 0 where
   pub count : length least ≡ length labels
   pub are_least : AreLeast least
-  pub same : (x y : ℕ) → x < length labels → y < length labels → (slice_index least x ≡ slice_index least y) ↔ (slice_index labels x ≡ slice_index labels y)
+  pub same : AreToldApart (length labels) least labels
 
 pub record NumbersSoFar (least : List ℕ) (n : ℕ) (part_of : List ℕ) (next : ℕ) : Type 0 where
   pub count : length part_of ≡ n
   pub few : next ≤ n
-  pub below : (y : ℕ) → y < n → slice_index part_of y < next
-  pub used : (k : ℕ) → k < next → (y : ℕ) × (y < n) × (slice_index part_of y ≡ k)
-  pub same : (x y : ℕ) → x < n → y < n → (slice_index part_of x ≡ slice_index part_of y) ↔ (slice_index least x ≡ slice_index least y)
-  pub in_order : (x k : ℕ) → x < n → k < slice_index part_of x → (y : ℕ) × (y < x) × (slice_index part_of y ≡ k)
+  pub below : StayBelow next n part_of
+  pub used : AreTaken next n part_of
+  pub same : AreToldApart n part_of least
+  pub in_order : IsNumberedUpTo n part_of
 
 pub record IsPartitionTable (part_of : List ℕ) (cells : List (List ℕ)) : Type 0 where
   pub partition : IsPartition part_of

@@ -11,7 +11,8 @@
 --     IsWhole lists part_of          the parts are the lists, and one part for each other cell
 -- After Mrozek and Wanner; the wording is this project's own.
 use Rattle.std.specs.Prelude.{◌≡◌, ◌⊎◌, ◌↔◌, ◌<◌, ◌^◌, ℕ, List, Contains, length, slice_index}
-use Rattle.conley_walk.specs.Lists.{ListedStep}
+use Rattle.conley_lists.specs.Lists.{ListedStep}
+use Rattle.conley_lists.specs.Gathered.{IsNumbering}
 use Rattle.conley_faces.specs.Face.{IsFace, IsLocallyClosed}
 
 abbrev pub IsInPart : List ℕ → ℕ → ℕ → Type 0
@@ -30,7 +31,7 @@ pub record IsPartition (part_of : List ℕ) : Type 0 where
   -- a cell's number has 32 bits
   pub few : length part_of < 2 ^ 32
   -- each smaller number is that of an earlier cell
-  pub in_order : (x k : ℕ) → x < length part_of → k < slice_index part_of x → (y : ℕ) × (y < x) × (slice_index part_of y ≡ k)
+  pub in_order : IsNumbering part_of
 
 pub record IsMultivectorField (faces : List (List ℕ)) (part_of : List ℕ) : Type 0 where
   pub count : length part_of ≡ length faces

@@ -1,10 +1,11 @@
 //! The first fault of lists, kind by kind.
 
 ghost use Rattle.std.specs.Prelude.{◌≡◌, ◌<◌, ◌≤◌, ℕ, [], All, length, slice_index, slice_index_or, IfOk};
-ghost use Rattle.conley_walk.specs.Lists.{items_of, ListedStep};
+ghost use Rattle.conley_first.specs.Places.{FindsFirst, FindsFirstPlace};
+ghost use Rattle.conley_lists.specs.Lists.{items_of, ListedStep};
 ghost use Rattle.conley_faces.specs.Face.{IsCellList, IsGap};
 ghost use Rattle.conley_mvf.specs.Fault.{IsUnknown, StoodEarlier};
-ghost use Rattle.conley_mvf.specs.Making.{FindsFirst, FindsFirstPlace, FindsFirstGap, MarksPart};
+ghost use Rattle.conley_mvf.specs.Making.{FindsFirstGap, MarksPart};
 
 use conley_faces::Faces;
 use std::alloc::{AllocError, Global};
@@ -68,7 +69,7 @@ pub(crate) fn first_repeat(
 }
 
 /// The first list without numbers.
-pub(crate) fn first_empty(lists: &[Vec<u32>]) -> Option<usize>
+pub fn first_empty(lists: &[Vec<u32>]) -> Option<usize>
     ensures { FindsFirstPlace (length lists.now) (λ k. slice_index_or (items_of lists.now) k [] ≡ []) result }
 {
     for (k, list) in lists.iter().enumerate() {

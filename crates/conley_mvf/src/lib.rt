@@ -11,7 +11,7 @@ mod numbering;
 mod partition;
 
 pub use error::PartError;
-pub use faults::first_unknown;
+pub use faults::{first_empty, first_unknown};
 pub use laws::first_fault_is_one;
 pub use partition::Partition;
 

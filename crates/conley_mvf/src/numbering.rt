@@ -1,7 +1,7 @@
 //! The numbers of parts.
 
 ghost use Rattle.std.specs.Prelude.{◌≡◌, ◌<◌, ◌^◌, ℕ, All, IfOk, length, slice_index};
-ghost use Rattle.conley_walk.specs.Lists.{items_of, ListedStep};
+ghost use Rattle.conley_lists.specs.Lists.{items_of, ListedStep};
 ghost use Rattle.conley_mvf.specs.Making.{PutsFirst, TellsFirst, AreLeast, TellsFirstByLabel, NumbersSoFar};
 
 use std::alloc::{AllocError, Global};

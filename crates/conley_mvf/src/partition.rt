@@ -2,7 +2,7 @@
 
 ghost use Rattle.std.specs.Prelude.{◌≡◌, ◌≢◌, ◌<◌, ◌≤◌, ◌^◌, ◌↔◌, ℕ, All, OnOk, IfOk, IsErrOf, Contains, length, slice_index};
 ghost use Rattle.std.specs.List.Sorted.{IsStrictlyIncreasing};
-ghost use Rattle.conley_walk.specs.Lists.{items_of, entries_of};
+ghost use Rattle.conley_lists.specs.Lists.{items_of, entries_of};
 ghost use Rattle.conley_mvf.specs.Partition.{IsInPart, IsPartNumber, IsPartition, IsMultivectorField, HaveNoGap, HaveSameParts, IsWhole};
 ghost use Rattle.conley_mvf.specs.Fault.{Fails, IsFirstFault};
 
@@ -10,7 +10,7 @@ use crate::faults::{first_empty, first_gap, first_repeat, first_unknown};
 use crate::numbering::{firsts_by_label, firsts_of, numbers_of};
 use crate::{NoMemory, PartError};
 use conley_faces::Faces;
-use conley_walk::{all_ordered, gathered};
+use conley_lists::{all_ordered, gathered};
 use std::alloc::Global;
 use std::marker::Model;
 
@@ -23,7 +23,7 @@ pub struct Partition {
 
 impl Model for Partition {
     ghost use Rattle.std.specs.Prelude.{ℕ, List};
-    ghost use Rattle.conley_walk.specs.Lists.{items_of};
+    ghost use Rattle.conley_lists.specs.Lists.{items_of};
     ghost use Rattle.conley_mvf.specs.Making.{IsPartitionTable};
 
     ghost Value = { List ℕ };
@@ -72,7 +72,7 @@ impl Partition {
         ensures parts { IfOk result (HaveSameParts labels.now) }
         ensures closed { IfOk result (IsMultivectorField faces.now) }
     {
-        let _cells = faces.count();
+        let _order = faces.count();
         let least = firsts_by_label(alloc, labels)?;
         let part_of = numbers_of(alloc, &least)?;
         let cells = gathered(alloc, &part_of)?;

@@ -8,7 +8,7 @@ use Rattle.std.proofs.lemmas.Nat.Bits.{bit_at_set_same, bit_at_set_other}
 use Rattle.std.proofs.lemmas.Nat.{mod_below}
 use Rattle.std.proofs.lemmas.Bool.{cases_eq, cases_lt, false≢true}
 use Rattle.std.proofs.lemmas.List.{take_more, get_or_append_left, get_or_past, length-take-le}
-use Rattle.conley_walk.specs.Lists.{IsMarked}
+use Rattle.conley_lists.specs.Lists.{IsMarked}
 use Rattle.conley_order.specs.ClassRows.{word_bit}
 
 abbrev pub with_bit : List ℕ → ℕ → List ℕ
@@ -44,7 +44,8 @@ mark_kept marks b k lt ne =
     let prefix : length (take b marks) ≡ b = length-take-le b marks (omega arith) in
     let prefix' : length (take (b + 1) marks) ≡ b + 1 = length-take-le (b + 1) marks (omega arith) in
     elim (cases_lt k b) [
-      | inl small ↦ ap (λ (q : List Bool). get_or q k false) (take_more marks b false lt) ∙ get_or_append_left (take b marks) (get_or marks b false ∷ []) false k (omega arith)
+      | inl small ↦ ap (λ (q : List Bool). get_or q k false) (take_more marks b false lt) ∙ get_or_append_left (take b marks) (get_or marks b false ∷ []) false
+          k (omega arith)
       | inr large ↦ get_or_past (take (b + 1) marks) k false (omega arith) ∙ sym (get_or_past (take b marks) k false (omega arith))
     ]
 

@@ -7,8 +7,8 @@ use Rattle.std.proofs.lemmas.Nat.Bits.{bit_at_or, bit_at-lt}
 use Rattle.std.proofs.lemmas.Nat.{div_below}
 use Rattle.std.proofs.lemmas.Bool.{cases_eq}
 use Rattle.std.proofs.lemmas.List.{map-append}
-use Rattle.conley_walk.specs.Lists.{items_of}
-use Rattle.conley_walk.proofs.ListLemmas.{row_at_end, row_before}
+use Rattle.conley_lists.specs.Lists.{items_of}
+use Rattle.conley_lists.proofs.ListLemmas.{row_at_end, row_before}
 use Rattle.conley_order.specs.ClassRows.{word_bit}
 use Rattle.conley_order.specs.LowerRows.{AreLowerRows, JoinsRow, IsLowerStill, IsCoverBy}
 
@@ -18,7 +18,8 @@ pub record JoinedSoFar (old new row : List ℕ) (n : ℕ) : Type 0 where
   pub low : (j : ℕ) → j < n → get_or new j 0 ≡ bit_or (get_or old j 0) (get_or row j 0)
   pub high : (j : ℕ) → n ≤ j → get_or new j 0 ≡ get_or old j 0
 
-pub joined_more : (old new row : List ℕ) (k : ℕ) → k < length new → JoinedSoFar old new row k → JoinedSoFar old (set new k (bit_or (get_or new k 0) (get_or row k 0))) row (k + 1)
+pub joined_more : (old new row : List ℕ) (k : ℕ) → k < length new → JoinedSoFar old new row k
+    → JoinedSoFar old (set new k (bit_or (get_or new k 0) (get_or row k 0))) row (k + 1)
 joined_more old new row k lt so_far = record {
   count = length-set new k (bit_or (get_or new k 0) (get_or row k 0)) ∙ so_far.count;
   low = λ j less. elim (cases_eq j k) [
@@ -39,14 +40,17 @@ joined_all old new row all = record {
   count = all.count;
   bits = λ b lt.
       let word = all.low (b / 64) (div_below b 64 (length old) (omega arith) (omega arith)) in
-      rw (word, bit_at_or) (max_is_one (bit_at (get_or old (b / 64) 0) (b % 64)) (bit_at (get_or row (b / 64) 0) (b % 64)) (bit_at-lt (get_or old (b / 64) 0) (b % 64)) (bit_at-lt (get_or row (b / 64) 0) (b % 64)));
+      rw (word, bit_at_or) (max_is_one (bit_at (get_or old (b / 64) 0) (b % 64)) (bit_at (get_or row (b / 64) 0) (b % 64))
+      (bit_at-lt (get_or old (b / 64) 0) (b % 64)) (bit_at-lt (get_or row (b / 64) 0) (b % 64)));
 }
 
 -- one row more of lower sets
-pub lower_more : (test : ℕ → ℕ → Bool) (m n : ℕ) (rows : List (Vec ℕ Global)) (row : Vec ℕ Global) → AreLowerRows test m n (items_of rows) → m ≤ 64 * length row.items →
+pub lower_more : (test : ℕ → ℕ → Bool) (m n : ℕ) (rows : List (Vec ℕ Global)) (row : Vec ℕ Global) → AreLowerRows test m n (items_of rows)
+    → m ≤ 64 * length row.items →
     ((q : ℕ) → q < m → (word_bit row.items q ≡ 1) ↔ (test q n ≡ true)) → AreLowerRows test m (n + 1) (items_of (rows ++ row ∷ []))
 lower_more test m n rows row so_far wide bits = record {
-  height = ap length (map-append (λ (r : Vec ℕ Global). r.items) rows (row ∷ [])) ∙ length-append (items_of rows) (row.items ∷ []) ∙ ap (λ k. k + 1) so_far.height;
+  height = ap length (map-append (λ (r : Vec ℕ Global). r.items) rows (row ∷ [])) ∙ length-append (items_of rows) (row.items ∷ [])
+      ∙ ap (λ k. k + 1) so_far.height;
   width = λ p lp. elim (cases_eq p n) [
     | inl e ↦ rw (row_at_end rows row p n so_far.height e) wide
     | inr ne ↦ rw (row_before rows row p n so_far.height (omega arith)) (so_far.width p (omega arith))
@@ -59,9 +63,11 @@ lower_more test m n rows row so_far wide bits = record {
 
 -- the union of the rows of those of the first n sets that stand in a row
 abbrev pub StillSoFar : List (List ℕ) → List ℕ → ℕ → List ℕ → Type 0
-StillSoFar lists row n words = (q : ℕ) → q < length lists → (word_bit words q ≡ 1) ↔ ((r : ℕ) × (r < n) × (word_bit row r ≡ 1) × (word_bit (get_or lists r []) q ≡ 1))
+StillSoFar lists row n words = (q : ℕ) → q < length lists → (word_bit words q ≡ 1) ↔ ((r : ℕ) × (r < n) × (word_bit row r ≡ 1)
+    × (word_bit (get_or lists r []) q ≡ 1))
 
-pub still_same : (lists : List (List ℕ)) (row : List ℕ) (n : ℕ) (words : List ℕ) → StillSoFar lists row n words → word_bit row n ≢ 1 → StillSoFar lists row (n + 1) words
+pub still_same : (lists : List (List ℕ)) (row : List ℕ) (n : ℕ) (words : List ℕ) → StillSoFar lists row n words → word_bit row n ≢ 1
+    → StillSoFar lists row (n + 1) words
 still_same lists row n words so_far out q lq = (
   (λ e. let w = (so_far q lq).0 e in (w.0, omega (arith, w.1), w.2, w.3)),
   (λ w. elim (cases_eq w.0 n) [
@@ -70,7 +76,8 @@ still_same lists row n words so_far out q lq = (
   ]),
 )
 
-pub still_more : (lists : List (List ℕ)) (row : List ℕ) (n : ℕ) (words new : List ℕ) → StillSoFar lists row n words → word_bit row n ≡ 1 → length lists ≤ 64 * length words → JoinsRow words new (get_or lists n []) → StillSoFar lists row (n + 1) new
+pub still_more : (lists : List (List ℕ)) (row : List ℕ) (n : ℕ) (words new : List ℕ) → StillSoFar lists row n words → word_bit row n ≡ 1
+    → length lists ≤ 64 * length words → JoinsRow words new (get_or lists n []) → StillSoFar lists row (n + 1) new
 still_more lists row n words new so_far is wide joins q lq =
     let bits = joins.bits q (omega (arith, lq, wide)) in (
       (λ e. elim (bits.0 e) [
@@ -84,7 +91,8 @@ still_more lists row n words new so_far is wide joins q lq =
     )
 
 -- a row of lower sets and the union of theirs show the covers
-pub cover_bits : (test : ℕ → ℕ → Bool) (m : ℕ) (lists : List (List ℕ)) → AreLowerRows test m m lists → (p q : ℕ) (words : List ℕ) → p < m → q < m → IsLowerStill lists p words →
+pub cover_bits : (test : ℕ → ℕ → Bool) (m : ℕ) (lists : List (List ℕ)) → AreLowerRows test m m lists → (p q : ℕ) (words : List ℕ) → p < m → q < m
+    → IsLowerStill lists p words →
     ((word_bit (get_or lists p []) q ≡ 1) × (word_bit words q ≢ 1)) ↔ IsCoverBy test m p q
 cover_bits test m lists are p q words lp lq still =
     let height = are.height in
@@ -105,7 +113,8 @@ cover_bits test m lists are p q words lp lq still =
     )
 
 -- the same rows, by a test that agrees
-pub lower-same : (test other : ℕ → ℕ → Bool) (m n : ℕ) (lists : List (List ℕ)) → AreLowerRows test m n lists → ((p q : ℕ) → p < n → q < m → test q p ≡ other q p) → AreLowerRows other m n lists
+pub lower-same : (test other : ℕ → ℕ → Bool) (m n : ℕ) (lists : List (List ℕ)) → AreLowerRows test m n lists
+    → ((p q : ℕ) → p < n → q < m → test q p ≡ other q p) → AreLowerRows other m n lists
 lower-same test other m n lists are same = record {
   height = are.height;
   width = are.width;

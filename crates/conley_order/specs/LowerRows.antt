@@ -24,7 +24,8 @@ pub record JoinsRow (old new row : List ℕ) : Type 0 where
   pub bits : (b : ℕ) → b < 64 * length old → (word_bit new b ≡ 1) ↔ ((word_bit old b ≡ 1) ⊎ (word_bit row b ≡ 1))
 
 abbrev pub IsLowerStill : List (List ℕ) → ℕ → List ℕ → Type 0
-IsLowerStill lists p words = (q : ℕ) → q < length lists → (word_bit words q ≡ 1) ↔ ((r : ℕ) × (r < length lists) × (word_bit (slice_index_or lists p []) r ≡ 1) × (word_bit (slice_index_or lists r []) q ≡ 1))
+IsLowerStill lists p words = (q : ℕ) → q < length lists → (word_bit words q ≡ 1) ↔ ((r : ℕ) × (r < length lists) × (word_bit (slice_index_or lists p []) r ≡ 1)
+    × (word_bit (slice_index_or lists r []) q ≡ 1))
 
 -- q is lower than p by the test, and nothing is between
 pub record IsCoverBy (test : ℕ → ℕ → Bool) (m p q : ℕ) : Type 0 where

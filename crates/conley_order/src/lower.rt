@@ -1,7 +1,7 @@
 //! For each of several cells a row of bits of those that are lower by a preorder, and unions of such rows.
 
 ghost use Rattle.std.specs.Prelude.{◌≡◌, ◌≢◌, ◌*◌, ◌<◌, ◌≤◌, ◌^◌, ◌↔◌, ℕ, false, All, IfOk, IsTrue, length, slice_index_or};
-ghost use Rattle.conley_walk.specs.Lists.{items_of};
+ghost use Rattle.conley_lists.specs.Lists.{items_of};
 ghost use Rattle.conley_order.specs.ClassRows.{word_bit};
 ghost use Rattle.conley_order.specs.LowerRows.{lower_by, AreLowerRows, AreWide, IsLowerStill};
 

@@ -1,7 +1,7 @@
 //! Reach between classes of cells, a row of bits for each class.
 
 ghost use Rattle.std.specs.Prelude.{◌≡◌, ◌<◌, length, slice_index};
-ghost use Rattle.conley_walk.specs.Lists.{items_of};
+ghost use Rattle.conley_lists.specs.Lists.{items_of};
 ghost use Rattle.conley_order.specs.ClassRows.{ClassRows, AreClassRows, is_at_or_below};
 
 use crate::Grading;
@@ -15,7 +15,7 @@ pub struct ReachRows {
 }
 
 impl Model for ReachRows {
-    ghost use Rattle.conley_walk.specs.Lists.{items_of};
+    ghost use Rattle.conley_lists.specs.Lists.{items_of};
     ghost use Rattle.conley_order.specs.ClassRows.{ClassRows, AreClassRows};
 
     ghost Value = { ClassRows };

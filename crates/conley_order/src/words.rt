@@ -1,7 +1,7 @@
 //! Rows of marks as rows of bits.
 
 ghost use Rattle.std.specs.Prelude.{◌≡◌, ◌<◌, ◌≤◌, ◌*◌, ◌^◌, ◌↔◌, ℕ, IfOk, length, vec_len};
-ghost use Rattle.conley_walk.specs.Lists.{IsMarked};
+ghost use Rattle.conley_lists.specs.Lists.{IsMarked};
 ghost use Rattle.conley_order.specs.ClassRows.{word_bit};
 
 use std::alloc::{AllocError, Global};

@@ -23,7 +23,15 @@ impl Model for MemorySink {
 
     ghost Value = { Page };
 
-    ghost view = { λ sink. record { bytes = sink.bytes.items; room = sink.room; most = sink.most; next = sink.next; fail_at = sink.fail_at; faults = sink.faults } };
+    ghost view = { λ sink. record {
+      bytes = sink.bytes.items;
+      room = sink.room;
+      most = sink.most;
+      next = sink.next;
+      fail_at = sink.fail_at;
+      faults =
+          sink.faults;
+    } };
 
     ghost invariant = { λ sink. (vec_len sink.bytes ≤ sink.room) × (sink.room ≤ vec_capacity sink.bytes) × (1 ≤ sink.most) };
 }

@@ -10,8 +10,8 @@ use Rattle.std.proofs.lemmas.List.Elements.{Contains-get_or}
 use Rattle.conley_field.specs.Arithmetic.{Arithmetic, IsField}
 use Rattle.conley_algebra.specs.Entries.{IsMatrix}
 use Rattle.conley_algebra.proofs.MatrixLemmas.{entries_path, same_within}
-use Rattle.conley_walk.proofs.AscendingLemmas.{same_numbers}
-use Rattle.conley_walk.proofs.ListLemmas.{All-from_contained, rises}
+use Rattle.conley_lists.proofs.AscendingLemmas.{same_numbers}
+use Rattle.conley_lists.proofs.ListLemmas.{All-from_contained, rises}
 use Rattle.conley_chains.specs.Matrix.{Table, entry, IsTable}
 use Rattle.conley_chains.proofs.ColumnLemmas.{IsTable-matrix}
 use Rattle.conley_homotopy.specs.Graded.{Generators, IsStrict}
@@ -24,7 +24,8 @@ use Rattle.conley_reduction.specs.Columns.{code_at, row_code_at}
 use Rattle.conley_reduction.specs.Work.{IsLeft, IsWork, IsClear, ListsLeft, ArePicked}
 use Rattle.conley_reduction.proofs.WorkLemmas.{left_within}
 
-module _ {F : Arithmetic} {below : ℕ → ℕ → Type 0} (L : Generators) (left : List Bool) (w phi psi gamma : List (List (ℕ × ℕ))) (work : IsWork F below L left w phi psi gamma)
+module _ {F : Arithmetic} {below : ℕ → ℕ → Type 0} (L : Generators) (left : List Bool) (w phi psi gamma : List (List (ℕ × ℕ)))
+    (work : IsWork F below L left w phi psi gamma)
     (numbers : List ℕ) (lists : ListsLeft left numbers) where
   by_kept : List ℕ
   by_kept = map work.kept (range_with_len 0 work.s)
@@ -92,7 +93,8 @@ all-within n all count items k d within =
     omega arith
 
 -- what renumbering makes of the work: lists of numbers, and parts of the matrices
-pub record AreParts (F : Arithmetic) (base dims : List ℕ) (left : List Bool) (w phi psi : List (List (ℕ × ℕ))) (numbers all base' dims' : List ℕ) (matrix phi_part psi_part gamma2 : Table) (gamma : List (List (ℕ × ℕ))) (gamma_part : Table) : Type 0 where
+pub record AreParts (F : Arithmetic) (base dims : List ℕ) (left : List Bool) (w phi psi : List (List (ℕ × ℕ))) (numbers all base' dims' : List ℕ)
+    (matrix phi_part psi_part gamma2 : Table) (gamma : List (List (ℕ × ℕ))) (gamma_part : Table) : Type 0 where
   pub lists : ListsLeft left numbers
   pub all_count : length all ≡ length base
   pub all_items : (x : ℕ) → x < length base → get_or all x 0 ≡ x
@@ -107,10 +109,12 @@ pub record AreParts (F : Arithmetic) (base dims : List ℕ) (left : List Bool) (
   pub gamma_entries : (y x : ℕ) → entry gamma_part y x ≡ row_code_at gamma y x
   pub gamma2_entries : (row column : ℕ) → entry gamma2 row column ≡ 0
 
-module _ {F : Arithmetic} (laws : IsField F) (cells : ℕ) (test : ℕ → ℕ → Bool) (base dims : List ℕ) (given : Table) (filtered : IsFiltered F cells test base dims given)
+module _ {F : Arithmetic} (laws : IsField F) (cells : ℕ) (test : ℕ → ℕ → Bool) (base dims : List ℕ) (given : Table)
+    (filtered : IsFiltered F cells test base dims given)
     (left : List Bool) (w phi psi gamma : List (List (ℕ × ℕ))) (work : IsWork F (IsBelow cells test) (generators base dims given) left w phi psi gamma)
     (clear : IsClear (IsBelow cells test) (generators base dims given) left w (length base))
-    (numbers all base' dims' : List ℕ) (matrix phi_part psi_part gamma2 gamma_part : Table) (parts : AreParts F base dims left w phi psi numbers all base' dims' matrix phi_part psi_part gamma2 gamma gamma_part) where
+    (numbers all base' dims' : List ℕ) (matrix phi_part psi_part gamma2 gamma_part : Table)
+    (parts : AreParts F base dims left w phi psi numbers all base' dims' matrix phi_part psi_part gamma2 gamma gamma_part) where
   count : length numbers ≡ work.s
   count = numbers-count (generators base dims given) left w phi psi gamma work numbers parts.lists
 
@@ -129,26 +133,34 @@ module _ {F : Arithmetic} (laws : IsField F) (cells : ℕ) (test : ℕ → ℕ �
         (subst (λ (n : ℕ). IsMatrix F n n (entry matrix)) count (IsTable-matrix laws (length numbers) (length numbers) matrix parts.matrix_table))
         (λ i j i_within j_within.
         let c = count in
-        sym (parts.matrix_entries i j (omega arith) (omega arith) ∙ ap (λ (k : ℕ). code_at w k (get_or numbers j 0)) (at i i_within) ∙ ap (λ (k : ℕ). code_at w (work.kept i) k) (at j j_within))));
+        sym (parts.matrix_entries i j (omega arith) (omega arith) ∙ ap (λ (k : ℕ). code_at w k (get_or numbers j 0)) (at i i_within)
+        ∙ ap (λ (k : ℕ). code_at w (work.kept i) k) (at j j_within))));
   }
 
-  maps-same : selected_maps work.kept (code_at phi) (row_code_at psi) (row_code_at gamma) ≡ record { phi = entry phi_part; psi = entry psi_part; gamma = entry gamma_part; gamma2 = entry gamma2 }
+  maps-same : selected_maps work.kept (code_at phi) (row_code_at psi) (row_code_at gamma) ≡
+      record { phi = entry phi_part; psi = entry psi_part; gamma = entry gamma_part; gamma2 = entry gamma2 }
   maps-same = maps_path _ _
       (entries_path _ _ (same_within (length base) work.s _ _ work.reduction.reduction.equivalence.phi_matrix
-      (subst (λ (m : ℕ). IsMatrix F m work.s (entry phi_part)) parts.all_count (subst (λ (n : ℕ). IsMatrix F (length all) n (entry phi_part)) count (IsTable-matrix laws (length all) (length numbers) phi_part parts.phi_table)))
+      (subst (λ (m : ℕ). IsMatrix F m work.s (entry phi_part)) parts.all_count (subst (λ (n : ℕ). IsMatrix F (length all) n (entry phi_part)) count
+      (IsTable-matrix laws (length all) (length numbers) phi_part parts.phi_table)))
       (λ y j y_within j_within.
       let c = count in
-      sym (parts.phi_entries y j (omega (arith, y_within, parts.all_count)) (omega arith) ∙ ap (λ (k : ℕ). code_at phi k (get_or numbers j 0)) (parts.all_items y y_within) ∙ ap (λ (k : ℕ). code_at phi y k) (at j j_within)))))
+      sym (parts.phi_entries y j (omega (arith, y_within, parts.all_count)) (omega arith) ∙ ap (λ (k : ℕ). code_at phi k (get_or numbers j 0))
+      (parts.all_items y y_within) ∙ ap (λ (k : ℕ). code_at phi y k) (at j j_within)))))
       (entries_path _ _ (same_within work.s (length base) _ _ work.reduction.reduction.equivalence.psi_matrix
-      (subst (λ (m : ℕ). IsMatrix F work.s m (entry psi_part)) parts.all_count (subst (λ (n : ℕ). IsMatrix F n (length all) (entry psi_part)) count (IsTable-matrix laws (length numbers) (length all) psi_part parts.psi_table)))
+      (subst (λ (m : ℕ). IsMatrix F work.s m (entry psi_part)) parts.all_count (subst (λ (n : ℕ). IsMatrix F n (length all) (entry psi_part)) count
+      (IsTable-matrix laws (length numbers) (length all) psi_part parts.psi_table)))
       (λ i x i_within x_within.
       let c = count in
-      sym (parts.psi_entries i x (omega arith) (omega (arith, x_within, parts.all_count)) ∙ ap (λ (k : ℕ). row_code_at psi k (get_or all x 0)) (at i i_within) ∙ ap (λ (k : ℕ). row_code_at psi (work.kept i) k) (parts.all_items x x_within)))))
+      sym (parts.psi_entries i x (omega arith) (omega (arith, x_within, parts.all_count)) ∙ ap (λ (k : ℕ). row_code_at psi k (get_or all x 0)) (at i i_within)
+      ∙ ap (λ (k : ℕ). row_code_at psi (work.kept i) k) (parts.all_items x x_within)))))
       (entries_path _ _ (λ row column. sym (parts.gamma_entries row column)))
       (entries_path _ _ (λ row column. sym (parts.gamma2_entries row column)))
 
-  pub renumbered-reduction : IsReducedTo F (IsBelow cells test) (generators base dims given) (generators base' dims' matrix) (record { phi = entry phi_part; psi = entry psi_part; gamma = entry gamma_part; gamma2 = entry gamma2 })
-  renumbered-reduction = reduced-same (generators base dims given) (selected (generators base dims given) work.s work.kept (code_at w)) (generators base' dims' matrix)
+  pub renumbered-reduction : IsReducedTo F (IsBelow cells test) (generators base dims given) (generators base' dims' matrix)
+      (record { phi = entry phi_part; psi = entry psi_part; gamma = entry gamma_part; gamma2 = entry gamma2 })
+  renumbered-reduction = reduced-same (generators base dims given) (selected (generators base dims given) work.s work.kept (code_at w))
+      (generators base' dims' matrix)
       (selected_maps work.kept (code_at phi) (row_code_at psi) (row_code_at gamma)) _ same maps-same work.reduction
 
   base_of : (i : ℕ) → i < length base' → get_or base' i 0 ≡ get_or base (work.kept i) 0
@@ -163,9 +175,11 @@ module _ {F : Arithmetic} (laws : IsField F) (cells : ℕ) (test : ℕ → ℕ �
       let b = parts.bases.count in
       let h_kept : h < work.s = omega arith in
       let g_kept : g < work.s = omega arith in
-      let entry_is = parts.matrix_entries h g (omega arith) (omega arith) ∙ ap (λ (k : ℕ). code_at w k (get_or numbers g 0)) (at h h_kept) ∙ ap (λ (k : ℕ). code_at w (work.kept h) k) (at g g_kept) in
+      let entry_is = parts.matrix_entries h g (omega arith) (omega arith) ∙ ap (λ (k : ℕ). code_at w k (get_or numbers g 0)) (at h h_kept)
+      ∙ ap (λ (k : ℕ). code_at w (work.kept h) k) (at g g_kept) in
       clear (work.kept g) (work.kept h) (kept_within g g_kept) (work.marked g g_kept) (work.marked h h_kept) (λ none. some (entry_is ∙ none))
-      (subst (λ (x : ℕ). IsBelow cells test x (get_or base (work.kept h) 0)) (base_of g g_within) (subst (λ (x : ℕ). IsBelow cells test (get_or base' g 0) x) (base_of h h_within) up))
+      (subst (λ (x : ℕ). IsBelow cells test x (get_or base (work.kept h) 0)) (base_of g g_within)
+      (subst (λ (x : ℕ). IsBelow cells test (get_or base' g 0) x) (base_of h h_within) up))
 
   item : (i d : ℕ) → i < length base' → get_or base' i d ≡ get_or base (work.kept i) 0
   item i d within = get_or_default base' i d 0 within ∙ base_of i within
@@ -180,7 +194,8 @@ module _ {F : Arithmetic} (laws : IsField F) (cells : ℕ) (test : ℕ → ℕ �
     base_distinct = λ i j d less within is.
         let c = count in
         let b = parts.bases.count in
-        filtered.base_distinct (work.kept i) (work.kept j) 0 (work.ascending i j less (omega arith)) (kept_within j (omega arith)) (sym (item i d (omega arith)) ∙ is ∙ item j d within);
+        filtered.base_distinct (work.kept i) (work.kept j) 0 (work.ascending i j less (omega arith)) (kept_within j (omega arith))
+        (sym (item i d (omega arith)) ∙ is ∙ item j d within);
     table = subst (λ (n : ℕ). IsTable F n n matrix) (sym parts.bases.count) parts.matrix_table;
     complex = renumbered-reduction.complex;
   }

@@ -18,8 +18,8 @@ use conley_chains::{Chain, Matrix, NoMemory};
 use conley_equivalence::Equivalence;
 use conley_field::Field;
 use conley_graded::GradedComplex;
+use conley_lists::all_numbers;
 use conley_order::Grading;
-use conley_walk::all_numbers;
 use std::alloc::{AllocError, Global};
 
 /// The listed rows and columns, numbered anew.
@@ -35,13 +35,14 @@ fn part_of<F: Field>(
     requires rows_ascend { IsStrictlyIncreasing rows.now }
     requires rows_few { length rows.now < 2 ^ 32 }
     requires places_within { All (λ x. x < n) places.now }
-    ensures entries { IfOk result (λ part. (i j : ℕ) → i < length rows.now → j < length places.now → entry part i j ≡ code_at columns.items (slice_index_or rows.now i 0) (slice_index_or places.now j 0)) }
+    ensures entries { IfOk result (λ part. (i j : ℕ) → i < length rows.now → j < length places.now
+        → entry part i j ≡ code_at columns.items (slice_index_or rows.now i 0) (slice_index_or places.now j 0)) }
     ensures table { IfOk result (IsTable (F.arithmetic field.now) (length rows.now) (length places.now)) }
 {
     let _field = field;
     let matrix = Matrix::from_columns(n, columns);
     let part = matrix.restrict(alloc, rows, places)?;
-    let _rows = part.rows();
+    let _kept = part.rows();
     Ok(part)
 }
 
@@ -52,13 +53,16 @@ fn renumbered<'g, F: Field, G: Grading>(
     work: Work,
 ) -> Result<Reduced<'g, F, G>, NoMemory>
     requires few { length graded.now.base < 2 ^ 32 }
-    requires work { IsWork (F.arithmetic graded.now.field) (IsBelow (G.cell_count graded.now.grading) (G.is_below graded.now.grading)) (generators_of graded.now) work.left.items work.w.items work.phi.items work.psi.items work.gamma.items }
-    requires strict { IsClear (IsBelow (G.cell_count graded.now.grading) (G.is_below graded.now.grading)) (generators_of graded.now) work.left.items work.w.items (length graded.now.base) }
+    requires work { IsWork (F.arithmetic graded.now.field) (IsBelow (G.cell_count graded.now.grading) (G.is_below graded.now.grading))
+        (generators_of graded.now) work.left.items work.w.items work.phi.items work.psi.items work.gamma.items }
+    requires strict { IsClear (IsBelow (G.cell_count graded.now.grading) (G.is_below graded.now.grading)) (generators_of graded.now) work.left.items
+        work.w.items (length graded.now.base) }
     ensures field { IfOk result (λ r. r.complex.field ≡ graded.now.field) }
     ensures grading { IfOk result (λ r. r.complex.grading ≡ graded.now.grading) }
     ensures strict { IfOk result (λ r. IsStrict (IsBelow (G.cell_count graded.now.grading) (G.is_below graded.now.grading)) (generators_of r.complex)) }
     ensures tables { IfOk result (λ r. AreTables (F.arithmetic graded.now.field) (length graded.now.base) (length r.complex.base) r.equivalence) }
-    ensures reduction { IfOk result (λ r. IsReducedTo (F.arithmetic graded.now.field) (IsBelow (G.cell_count graded.now.grading) (G.is_below graded.now.grading)) (generators_of graded.now) (generators_of r.complex) (maps_of r.equivalence)) }
+    ensures reduction { IfOk result (λ r. IsReducedTo (F.arithmetic graded.now.field) (IsBelow (G.cell_count graded.now.grading)
+        (G.is_below graded.now.grading)) (generators_of graded.now) (generators_of r.complex) (maps_of r.equivalence)) }
 {
     let n = graded.count();
     let field = graded.field();
@@ -105,7 +109,8 @@ pub fn reduce<'g, F: Field, G: Grading>(
     ensures grading { IfOk result (λ r. r.complex.grading ≡ graded.now.grading) }
     ensures strict { IfOk result (λ r. IsStrict (IsBelow (G.cell_count graded.now.grading) (G.is_below graded.now.grading)) (generators_of r.complex)) }
     ensures tables { IfOk result (λ r. AreTables (F.arithmetic graded.now.field) (length graded.now.base) (length r.complex.base) r.equivalence) }
-    ensures reduction { IfOk result (λ r. IsReducedTo (F.arithmetic graded.now.field) (IsBelow (G.cell_count graded.now.grading) (G.is_below graded.now.grading)) (generators_of graded.now) (generators_of r.complex) (maps_of r.equivalence)) }
+    ensures reduction { IfOk result (λ r. IsReducedTo (F.arithmetic graded.now.field) (IsBelow (G.cell_count graded.now.grading)
+        (G.is_below graded.now.grading)) (generators_of graded.now) (generators_of r.complex) (maps_of r.equivalence)) }
 {
     if graded.count() > u32::MAX as usize {
         return Err(AllocError);

@@ -7,8 +7,8 @@ use Rattle.std.proofs.lemmas.List.{get_or-map, length-map, get_or_default}
 use Rattle.std.proofs.lemmas.List.Elements.{All-cons, All-map, All-weaker, All-contains, All-nil}
 use Rattle.std.proofs.lemmas.List.Kept.{AllPairs-from_increasing}
 use Rattle.conley_generated.specs.Rule.{only_cells}
-use Rattle.conley_generated.specs.Making.{AreApart}
-use Rattle.conley_walk.proofs.ContainsLemmas.{Contains-first, Contains-rest}
+use Rattle.conley_lists.proofs.ContainsLemmas.{Contains-first, Contains-rest}
+use Rattle.conley_lists.specs.Lists.{AreApart}
 use Rattle.conley_generated.proofs.CellLemmas.{pairs_head, pairs_tail, behind_apart, apart_cons}
 use Rattle.conley_simplicial.specs.Making.{is_odd, before_face, without, faces_of_simplex}
 
@@ -85,7 +85,8 @@ without_apart : (s : List ℕ) → Ascends s → AreApart (only_cells (without s
 without_apart [] up = λ i j d less lt. absurd (omega (arith, lt))
 without_apart (v ∷ s) up =
     subst (λ (l : List (List ℕ)). AreApart (s ∷ l)) (sym (only_cells-behind v (without s)))
-    (apart_cons s (map (λ t. v ∷ t) (only_cells (without s))) (All-map (λ t. s ≢ t) (λ (t : List ℕ). v ∷ t) (only_cells (without s)) (λ k d lt. not_behind s (get_or (only_cells (without s)) k d) (pairs_head Less v s up)))
+    (apart_cons s (map (λ t. v ∷ t) (only_cells (without s))) (All-map (λ t. s ≢ t) (λ (t : List ℕ). v ∷ t) (only_cells (without s))
+    (λ k d lt. not_behind s (get_or (only_cells (without s)) k d) (pairs_head Less v s up)))
     (behind_apart v (only_cells (without s)) (without_apart s (pairs_tail Less v s up))))
   where
     not_behind : (s t : List ℕ) → All (Less v) s → s ≢ v ∷ t
@@ -106,7 +107,8 @@ pub left_out : (p : List ℕ) (v : ℕ) (s : List ℕ) → Contains (only_cells 
 left_out [] v s = Contains-first s (only_cells (map (before_face v) (without s)))
 left_out (w ∷ p) v s =
     Contains-rest (p ++ v ∷ s) (only_cells (map (before_face w) (without (p ++ v ∷ s)))) (w ∷ (p ++ s))
-    (subst (λ (l : List (List ℕ)). Contains l (w ∷ (p ++ s))) (sym (only_cells-behind w (without (p ++ v ∷ s)))) (mapped (only_cells (without (p ++ v ∷ s))) (left_out p v s)))
+    (subst (λ (l : List (List ℕ)). Contains l (w ∷ (p ++ s))) (sym (only_cells-behind w (without (p ++ v ∷ s))))
+    (mapped (only_cells (without (p ++ v ∷ s))) (left_out p v s)))
   where
     mapped : (cells : List (List ℕ)) → Contains cells (p ++ s) → Contains (map (λ t. w ∷ t) cells) (w ∷ (p ++ s))
     mapped cells c =

@@ -6,12 +6,12 @@ use Rattle.std.specs.List.Sorted.{IsStrictlyIncreasing}
 use Rattle.std.proofs.lemmas.List.{length-map, get_or-map, get_or_default}
 use Rattle.std.proofs.lemmas.List.Elements.{All-weaker, All-contains}
 use Rattle.std.proofs.lemmas.List.Edits.{length-remove}
+use Rattle.conley_lists.specs.Lists.{AreApart}
 use Rattle.conley_field.specs.Arithmetic.{Arithmetic, IsField}
 use Rattle.conley_first.specs.First.{Precedes}
 use Rattle.conley_lefschetz.specs.Complex.{Layout}
 use Rattle.conley_generated.specs.Rule.{IsRule, IsFace, only_cells, sign, value_in, value, minus_one_to}
 use Rattle.conley_generated.specs.Generated.{IsUnder, IsGenerated, AreMoreUnder}
-use Rattle.conley_generated.specs.Making.{AreApart}
 use Rattle.conley_generated.proofs.CellLemmas.{All-contained, cell_at, contains_at, most_cells}
 use Rattle.conley_generated.proofs.ValueLemmas.{value_in-at, value_in-none}
 use Rattle.conley_simplicial.specs.Simplex.{IsSimplex, IsBefore}
@@ -62,12 +62,14 @@ module _ {F : Arithmetic} (laws : IsField F) where
   sign_power (suc i) = sign-not laws (is_odd i) ∙ ap F.neg (sign_power i)
 
   -- leaving out the vertex in place i
-  pub value_left_out : (labels : List (List ℕ)) (s t : List ℕ) (i : ℕ) → IsStrictlyIncreasing s → 0 < length t → i < length s → t ≡ remove s i → value F (rule_of labels) s t ≡ minus_one_to F i
+  pub value_left_out : (labels : List (List ℕ)) (s t : List ℕ) (i : ℕ) → IsStrictlyIncreasing s → 0 < length t → i < length s → t ≡ remove s i
+      → value F (rule_of labels) s t ≡ minus_one_to F i
   value_left_out labels s t i up some lt e =
       let two : 1 < length s = omega (arith, some, ap length e, length-remove s i lt) in
       let d : List ℕ × Bool = ([], false) in
       let at : get_or (without s) i d ≡ (remove s i, is_odd i) = without_at s i d lt in
-      let apart : AreApart (only_cells (without s)) = subst (λ (l : List (List ℕ × Bool)). AreApart (only_cells l)) (faces_without s two) (faces_apart s (ascends_from s up)) in
+      let apart : AreApart (only_cells (without s)) = subst (λ (l : List (List ℕ × Bool)). AreApart (only_cells l)) (faces_without s two)
+      (faces_apart s (ascends_from s up)) in
       ap (λ (l : List (List ℕ × Bool)). value_in F l t) (faces_without s two)
       ∙ ap (value_in F (without s)) (e ∙ sym (ap (λ (f : List ℕ × Bool). f.0) at))
       ∙ value_in-at laws (without s) apart i d (omega (arith, lt, length-without s))
@@ -87,7 +89,8 @@ module _ {F : Arithmetic} (laws : IsField F) where
           let n = length-map (without (v ∷ w ∷ s)) (λ (face : List ℕ × Bool). face.0) in
           let lt : there.0 < length (v ∷ w ∷ s) = omega (arith, there.1, n, length-without (v ∷ w ∷ s)) in
           let at = without_at (v ∷ w ∷ s) there.0 d lt in
-          other there.0 lt (sym there.2 ∙ get_or-map (λ (face : List ℕ × Bool). face.0) (without (v ∷ w ∷ s)) there.0 d [] (omega (arith, there.1, n)) ∙ ap (λ (f : List ℕ × Bool). f.0) at)
+          other there.0 lt (sym there.2 ∙ get_or-map (λ (face : List ℕ × Bool). face.0) (without (v ∷ w ∷ s)) there.0 d [] (omega (arith, there.1, n))
+          ∙ ap (λ (f : List ℕ × Bool). f.0) at)
 
 -- ---- the complex
 
@@ -105,7 +108,8 @@ module _ (labels : List (List ℕ)) (n : ℕ) (simplices seeds : List (List ℕ)
 
   module _ {F : Arithmetic} (laws : IsField F) (most : ℕ) (c : Layout) (made : IsGenerated F (rule_of labels) seeds most c) (count : n ≡ length labels) where
     simplex_at : (x : ℕ) → x < length made.cells → IsSimplex n simplices (get_or made.cells x [])
-    simplex_at x lt = under_simplex labels n simplices seeds are (get_or made.cells x []) ((made.are.all (get_or made.cells x [])).0 (contains_at made.cells x lt))
+    simplex_at x lt = under_simplex labels n simplices seeds are (get_or made.cells x []) ((made.are.all (get_or made.cells x [])).0
+        (contains_at made.cells x lt))
 
     cells_are_simplices : AreSimplices n simplices made.cells
     cells_are_simplices = record {
@@ -115,7 +119,10 @@ module _ (labels : List (List ℕ)) (n : ℕ) (simplices seeds : List (List ℕ)
           subst (λ (s : List ℕ). IsBefore s (get_or made.cells j d)) (sym e) (subst (λ (t : List ℕ). IsBefore (get_or made.cells i []) t) (sym f)
           (lower (length (get_or made.cells i [])) (length (get_or made.cells j [])) (get_or made.cells i []) (get_or made.cells j [])
           (simplex_at i (omega (arith, less, lt))).some (simplex_at j lt).some (made.are.ordered i j [] less lt)));
-      all = λ s. ((λ there. under_simplex labels n simplices seeds are s ((made.are.all s).0 there)), (λ is. (made.are.all s).1 (simplex_under labels n simplices seeds are s is)));
+      all = λ s. (
+        (λ there. under_simplex labels n simplices seeds are s ((made.are.all s).0 there)),
+        (λ is. (made.are.all s).1 (simplex_under labels n simplices seeds are s is)),
+      );
     }
 
     pub simplicial_complex : IsSimplicialComplex F labels simplices c
@@ -125,7 +132,8 @@ module _ (labels : List (List ℕ)) (n : ℕ) (simplices seeds : List (List ℕ)
       labels_are = made.labels;
       dims_are = made.dims;
       values = record {
-        value = λ x y i lt lt' within e. made.boundary x y lt lt' ∙ value_left_out laws labels (get_or made.cells x []) (get_or made.cells y []) i (simplex_at x lt).ascending (simplex_at y lt').some within e;
+        value = λ x y i lt lt' within e. made.boundary x y lt lt' ∙ value_left_out laws labels (get_or made.cells x []) (get_or made.cells y []) i
+            (simplex_at x lt).ascending (simplex_at y lt').some within e;
         none = λ x y lt lt' other. made.boundary x y lt lt' ∙ value_other laws labels (get_or made.cells x []) (get_or made.cells y []) other;
         beyond = made.beyond;
       };
@@ -134,5 +142,6 @@ module _ (labels : List (List ℕ)) (n : ℕ) (simplices seeds : List (List ℕ)
     -- and there are no more
     pub no_more : ¬ AreMore n simplices most
     no_more more =
-        let fits = most_cells made.cells more.some more.apart (All-weaker (IsSimplex n simplices) (Contains made.cells) (λ s is. (made.are.all s).1 (simplex_under labels n simplices seeds are s is)) more.some more.are) in
+        let fits = most_cells made.cells more.some more.apart (All-weaker (IsSimplex n simplices) (Contains made.cells)
+        (λ s is. (made.are.all s).1 (simplex_under labels n simplices seeds are s is)) more.some more.are) in
         absurd (omega (arith, fits, made.few, more.more))

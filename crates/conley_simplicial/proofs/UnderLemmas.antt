@@ -6,7 +6,7 @@ use Rattle.std.proofs.lemmas.List.Elements.{All-head, All-tail, All-weaker, All-
 use Rattle.conley_generated.specs.Rule.{IsFace, only_cells}
 use Rattle.conley_generated.specs.Generated.{IsUnder}
 use Rattle.conley_generated.specs.Generated.IsUnder.{seed, face}
-use Rattle.conley_walk.proofs.ContainsLemmas.{Contains-cases}
+use Rattle.conley_lists.proofs.ContainsLemmas.{Contains-cases}
 use Rattle.conley_generated.proofs.CellLemmas.{pairs_head, pairs_tail, Contains-empty}
 use Rattle.conley_simplicial.specs.Simplex.{IsSimplex}
 use Rattle.conley_simplicial.specs.Making.{faces_of_simplex, rule_of, SeedsAre}
@@ -43,7 +43,12 @@ module _ (labels : List (List ℕ)) (n : ℕ) (simplices seeds : List (List ℕ)
         some = omega (arith, part.shorter, two);
         among = elim up.among [
           | inl vertex ↦ absurd (omega (arith, two, ap length vertex.2))
-          | inr listed ↦ inr (listed.0, listed.1, All-weaker (Contains t) (Contains (get_or simplices listed.0 [])) (λ v c. All-contains (Contains (get_or simplices listed.0 [])) t v listed.2 c) s part.within)
+          | inr listed ↦ inr (
+            listed.0,
+            listed.1,
+            All-weaker (Contains t) (Contains (get_or simplices listed.0 []))
+                (λ v c. All-contains (Contains (get_or simplices listed.0 [])) t v listed.2 c) s part.within,
+          )
         ];
       }
 
@@ -51,7 +56,8 @@ module _ (labels : List (List ℕ)) (n : ℕ) (simplices seeds : List (List ℕ)
   drop_one : (p : List ℕ) (v : ℕ) (u : List ℕ) → Under (p ++ v ∷ u) → 0 < length (p ++ u) → Under (p ++ u)
   drop_one p v u under some =
       let two : 1 < length (p ++ v ∷ u) = omega (arith, some, length-append p (v ∷ u), length-append p u) in
-      face (p ++ v ∷ u) (p ++ u) under (subst (λ (l : List (List ℕ × Bool)). Contains (only_cells l) (p ++ u)) (sym (faces_without (p ++ v ∷ u) two)) (left_out p v u))
+      face (p ++ v ∷ u) (p ++ u) under (subst (λ (l : List (List ℕ × Bool)). Contains (only_cells l) (p ++ u)) (sym (faces_without (p ++ v ∷ u) two))
+      (left_out p v u))
 
   -- a list under the seeds, with some of its vertices alone, is under them
   thinned : (p u s : List ℕ) → Under (p ++ u) → Ascends u → Ascends s → All (Contains u) s → 0 < length (p ++ s) → Under (p ++ s)
@@ -88,6 +94,7 @@ module _ (labels : List (List ℕ)) (n : ℕ) (simplices seeds : List (List ℕ)
     | inl vertex ↦ seed s (subst (Contains seeds) (sym vertex.2) (are.vertices vertex.0 vertex.1))
     | inr listed ↦
         let whole = are.listed listed.0 listed.1 in
-        thinned [] whole.0 s (seed whole.0 whole.1) (ascends_from whole.0 (All-contains IsStrictlyIncreasing seeds whole.0 are.ascending whole.1)) (ascends_from s is.ascending)
+        thinned [] whole.0 s (seed whole.0 whole.1) (ascends_from whole.0 (All-contains IsStrictlyIncreasing seeds whole.0 are.ascending whole.1))
+        (ascends_from s is.ascending)
         (All-weaker (Contains (get_or simplices listed.0 [])) (Contains whole.0) (λ v c. (whole.2 v).1 c) s listed.2) is.some
   ]

@@ -6,7 +6,7 @@ use Rattle.std.proofs.lemmas.Bool.{or_cases, or_left, or_right, false≢true, tr
 use Rattle.std.proofs.lemmas.List.{get_or_default, get_or-take, length-take-le, take_more, take_all}
 use Rattle.std.proofs.lemmas.List.Elements.{All-push}
 use Rattle.std.proofs.lemmas.List.Quantifiers.{all_pairs_push}
-use Rattle.conley_walk.proofs.ContainsLemmas.{Contains-rest, Contains-cases}
+use Rattle.conley_lists.proofs.ContainsLemmas.{Contains-rest, Contains-cases}
 use Rattle.conley_generated.proofs.CellLemmas.{Contains-empty}
 use Rattle.conley_simplicial.specs.Fault.{IsBadSimplex}
 use Rattle.conley_simplicial.specs.Making.{NotesVertex}
@@ -25,11 +25,17 @@ contained (key ∷ keys) v c = elim (Contains-cases key keys v c) [
   | inr later ↦ or_right (nat_eq v key) (list_any (nat_eq v) keys) (contained keys v later)
 ]
 
-pub notes_vertex : (keys new : List ℕ) (v : ℕ) (added : Bool) → added ≡ not (list_any (nat_eq v) keys) → new ≡ cond (list_any (nat_eq v) keys) keys (keys ++ v ∷ []) → NotesVertex keys new v added
+pub notes_vertex : (keys new : List ℕ) (v : ℕ) (added : Bool) → added ≡ not (list_any (nat_eq v) keys)
+    → new ≡ cond (list_any (nat_eq v) keys) keys (keys ++ v ∷ []) → NotesVertex keys new v added
 notes_vertex keys new v added e is = by (list_any (nat_eq v) keys) refl e is
   where
     by : (b : Bool) → list_any (nat_eq v) keys ≡ b → added ≡ not b → new ≡ cond b keys (keys ++ v ∷ []) → NotesVertex keys new v added
-    by true t e same = record { noted = λ yes. absurd (false≢true (sym e ∙ yes)); fresh = λ yes. absurd (false≢true (sym e ∙ yes)); stood = λ _. tested keys v t }
+    by true t e same = record {
+      noted = λ yes. absurd (false≢true (sym e ∙ yes));
+      fresh = λ yes. absurd (false≢true (sym e ∙ yes));
+      stood =
+          λ _. tested keys v t;
+    }
     by false t e same = record { noted = λ _. same; fresh = λ _ c. false≢true (sym t ∙ contained keys v c); stood = λ no. absurd (true≢false (sym e ∙ no)) }
 
 -- the first i numbers of a list are vertices, and no two of them are one
@@ -50,7 +56,8 @@ module _ (n : ℕ) (list : List ℕ) where
     pub good_more : (new : List ℕ) (v : ℕ) → v ≡ get_or list i 0 → v < n → NotesVertex seen new v true → IsGoodUpTo n list new (i + 1)
     good_more new v is below notes = record {
       seen_are = notes.noted refl ∙ ap (λ l. l ++ v ∷ []) good.seen_are ∙ ap (λ u. take i list ++ u ∷ []) is ∙ sym (take_more list i 0 lt);
-      apart = subst (λ l. AllPairs (λ v w. v ≢ w) l) (sym (notes.noted refl)) (all_pairs_push (λ v w. v ≢ w) seen v good.apart (λ k d within e. notes.fresh refl (k, within, get_or_default seen k v d within ∙ e)));
+      apart = subst (λ l. AllPairs (λ v w. v ≢ w) l) (sym (notes.noted refl)) (all_pairs_push (λ v w. v ≢ w) seen v good.apart
+          (λ k d within e. notes.fresh refl (k, within, get_or_default seen k v d within ∙ e)));
       below = subst (λ l. All (λ v. v < n) l) (sym (notes.noted refl)) (All-push (λ v. v < n) seen v good.below below);
     }
 
@@ -61,7 +68,14 @@ module _ (n : ℕ) (list : List ℕ) where
     bad_twice new v is notes =
         let there = notes.stood refl in
         let few : there.0 < i = omega (arith, there.1, ap length good.seen_are, length-take-le i list (omega (arith, lt))) in
-        inr (inl (there.0, i, few, lt, sym (get_or-take i list there.0 0 few) ∙ sym (ap (λ l. get_or l there.0 0) good.seen_are) ∙ get_or_default seen there.0 0 v there.1 ∙ there.2 ∙ is))
+        inr (inl (
+          there.0,
+          i,
+          few,
+          lt,
+          sym (get_or-take i list there.0 0 few) ∙ sym (ap (λ l. get_or l there.0 0) good.seen_are)
+              ∙ get_or_default seen there.0 0 v there.1 ∙ there.2 ∙ is,
+        ))
 
   pub good_all : (seen : List ℕ) (i : ℕ) → IsGoodUpTo n list seen i → length list ≤ i → 0 < length list → ¬ IsBadSimplex n list
   good_all seen i good le some bad =

@@ -12,6 +12,8 @@ mod four_elements_tests;
 #[cfg(test)]
 mod lefschetz_tests;
 #[cfg(test)]
+mod lists_tests;
+#[cfg(test)]
 mod order_tests;
 #[cfg(test)]
 mod walk_tests;

@@ -16,7 +16,8 @@ pub joined-append : (some : Bool) (a b : List (List ℕ)) → joined some (a ++ 
 joined-append true a b = flat_map-append (λ word. 32 ∷ word) a b
 joined-append false [] b = refl
 joined-append false (word ∷ words) b =
-    join_behind word (words ++ b) ∙ ap (λ t. word ++ t) (flat_map-append (λ w. 32 ∷ w) words b) ∙ sym (append_assoc word (joined true words) (joined true b)) ∙ ap (λ t. t ++ joined true b) (sym (join_behind word words))
+    join_behind word (words ++ b) ∙ ap (λ t. word ++ t) (flat_map-append (λ w. 32 ∷ w) words b) ∙ sym (append_assoc word (joined true words) (joined true b))
+    ∙ ap (λ t. t ++ joined true b) (sym (join_behind word words))
 
 joined-one : (some : Bool) (word : List ℕ) → joined some (word ∷ []) ≡ behind some word
 joined-one true word = ap (λ t. 32 ∷ t) (append-nil word)
@@ -31,7 +32,8 @@ pub joined_more : {X : Type 0} (f : X → List ℕ) (xs : List X) (i : ℕ) (d :
     joined some (map f (take (i + 1) xs)) ≡ joined some (map f (take i xs)) ++ behind (some || is_some (map f (take i xs))) (f (get_or xs i d))
 joined_more f xs i d some h =
     ap (λ ys. joined some (map f ys)) (take_more xs i d h) ∙ ap (joined some) (map-append f (take i xs) (get_or xs i d ∷ []))
-    ∙ joined-append some (map f (take i xs)) (f (get_or xs i d) ∷ []) ∙ ap (λ t. joined some (map f (take i xs)) ++ t) (joined-one (some || is_some (map f (take i xs))) (f (get_or xs i d)))
+    ∙ joined-append some (map f (take i xs)) (f (get_or xs i d) ∷ []) ∙ ap (λ t. joined some (map f (take i xs)) ++ t)
+    (joined-one (some || is_some (map f (take i xs))) (f (get_or xs i d)))
 
 -- there is a word once one is made
 pub some_more : {X : Type 0} (f : X → List ℕ) (xs : List X) (i : ℕ) (some : Bool) → i < length xs → true ≡ some || is_some (map f (take (i + 1) xs))
@@ -39,17 +41,19 @@ some_more f [] i some h = absurd (omega arith)
 some_more f (x ∷ xs) i true h = refl
 some_more f (x ∷ xs) i false h = sym (ap (λ k. is_some (map f (take k (x ∷ xs)))) (add-one i))
 
-parts_more : {X : Type 0} (f : X → List (List ℕ)) (xs : List X) (i : ℕ) (d : X) → i < length xs → flat_map f (take (i + 1) xs) ≡ flat_map f (take i xs) ++ f (get_or xs i d)
-parts_more f xs i d h = ap (flat_map f) (take_more xs i d h) ∙ flat_map-append f (take i xs) (get_or xs i d ∷ []) ∙ ap (λ t. flat_map f (take i xs) ++ t) (append-nil (f (get_or xs i d)))
+parts_more : {X : Type 0} (f : X → List (List ℕ)) (xs : List X) (i : ℕ) (d : X) → i < length xs
+    → flat_map f (take (i + 1) xs) ≡ flat_map f (take i xs) ++ f (get_or xs i d)
+parts_more f xs i d h = ap (flat_map f) (take_more xs i d h) ∙ flat_map-append f (take i xs) (get_or xs i d ∷ [])
+    ∙ ap (λ t. flat_map f (take i xs) ++ t) (append-nil (f (get_or xs i d)))
 
 -- the words of one more part
-pub line_more : {X : Type 0} (f : X → List (List ℕ)) (xs : List X) (i : ℕ) (d : X) → i < length xs →
-    joined false (flat_map f (take (i + 1) xs)) ≡ joined false (flat_map f (take i xs)) ++ joined (is_some (flat_map f (take i xs))) (f (get_or xs i d))
+pub line_more : {X : Type 0} (f : X → List (List ℕ)) (xs : List X) (i : ℕ) (d : X) (within : i < length xs)
+    → joined false (flat_map f (take (i + 1) xs)) ≡ joined false (flat_map f (take i xs)) ++ joined (is_some (flat_map f (take i xs))) (f (get_or xs i d))
 line_more f xs i d h =
     ap (joined false) (parts_more f xs i d h) ∙ joined-append false (flat_map f (take i xs)) (f (get_or xs i d))
 
-pub some_parts : {X : Type 0} (f : X → List (List ℕ)) (xs : List X) (i : ℕ) (d : X) → i < length xs →
-    is_some (flat_map f (take (i + 1) xs)) ≡ is_some (flat_map f (take i xs)) || is_some (f (get_or xs i d))
+pub some_parts : {X : Type 0} (f : X → List (List ℕ)) (xs : List X) (i : ℕ) (d : X)
+    → i < length xs → is_some (flat_map f (take (i + 1) xs)) ≡ is_some (flat_map f (take i xs)) || is_some (f (get_or xs i d))
 some_parts f xs i d h = ap is_some (parts_more f xs i d h) ∙ is_some-append (flat_map f (take i xs)) (f (get_or xs i d))
 
 -- one part of a line
@@ -64,7 +68,9 @@ joined-numbers [] = refl
 joined-numbers (n ∷ numbers) = ap (λ t. 32 ∷ (decimal n ++ t)) (joined-numbers numbers)
 
 -- the pieces of the line of a fault
-pub told_line : (word name numbers : List ℕ) → (word ++ (32 ∷ name)) ++ (flat_map (λ n. 32 ∷ decimal n) numbers ++ 10 ∷ []) ≡ line (word ∷ name ∷ map decimal numbers)
+pub told_line : (word name numbers : List ℕ) → (word ++ (32 ∷ name)) ++ (flat_map (λ n. 32 ∷ decimal n) numbers ++ 10 ∷ []) ≡ line
+    (word ∷ name ∷ map decimal numbers)
 told_line word name numbers =
-    ap (λ t. (word ++ (32 ∷ name)) ++ (t ++ 10 ∷ [])) (sym (joined-numbers numbers)) ∙ sym (append_assoc (word ++ (32 ∷ name)) (joined true (map decimal numbers)) (10 ∷ []))
+    ap (λ t. (word ++ (32 ∷ name)) ++ (t ++ 10 ∷ [])) (sym (joined-numbers numbers)) ∙ sym (append_assoc (word ++ (32 ∷ name))
+    (joined true (map decimal numbers)) (10 ∷ []))
     ∙ ap (λ t. t ++ 10 ∷ []) (append_assoc word (32 ∷ name) (joined true (map decimal numbers)) ∙ sym (join_behind word (name ∷ map decimal numbers)))

@@ -1,7 +1,7 @@
 -- A certificate whose generators stand for cells has no more of them than there are cells.
 use Rattle.std.proofs.Common.{◌<◌, ◌≤◌, ℕ, zero, suc, List, length, get_or, arith}
 use Rattle.std.specs.List.Sorted.{IsStrictlyIncreasing}
-use Rattle.conley_walk.proofs.ListLemmas.{rises}
+use Rattle.conley_lists.proofs.ListLemmas.{rises}
 use Rattle.conley_graph.specs.Decomposition.{IsConleyMorseGraph}
 use Rattle.conley_certificate_file.specs.Certificate.{Certificate}
 use Rattle.conley_certificate.specs.Problem.{Problem}
@@ -16,7 +16,8 @@ at_own numbers up (suc k) within =
     let before = at_own numbers up k (omega (arith, within)) in
     omega (arith, before, rises numbers up k (suc k) (omega arith) within)
 
-pub few_generators : (P : Problem) (C : Certificate) (cells : List ℕ) → KeepsCells P C cells → IsAnalysis P C → IsConleyMorseGraph P.scalars P.complex P.part_of C.morse C.index C.order →
+pub few_generators : (P : Problem) (C : Certificate) (cells : List ℕ) → KeepsCells P C cells → IsAnalysis P C
+    → IsConleyMorseGraph P.scalars P.complex P.part_of C.morse C.index C.order →
     length C.generators ≤ length P.part_of
 few_generators P C cells keeps analysis graph = by (length C.generators) (omega arith)
   where

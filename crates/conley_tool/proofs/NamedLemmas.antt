@@ -17,7 +17,8 @@ module _ (files : Files) (word : List ℕ) (Next : Problem → Due → Type 0) w
   due_named false problem what made next = (problem, made, next)
 
   -- an outcome that ends the run once the problem is made
-  end_made : (problem : Problem) (early late : Type 0) (outcome : Outcome) → (early → late) → IsMade word problem → EndCause (Next problem) early outcome → EndCause (OnMade word Next) late outcome
+  end_made : (problem : Problem) (early late : Type 0) (outcome : Outcome) → (early → late) → IsMade word problem → EndCause (Next problem) early outcome
+      → EndCause (OnMade word Next) late outcome
   end_made problem early late (Refused fault) rose made is = (problem, made, is)
   end_made problem early late (Rejected reason) rose made is = (problem, made, is)
   end_made problem early late TooLong rose made is = (problem, made, is)
@@ -30,11 +31,13 @@ module _ (files : Files) (word : List ℕ) (Next : Problem → Due → Type 0) w
   end_made problem early late WriteFault rose made is = is
 
   -- an outcome that ends the run once there is the problem
-  pub end_named : (reads : Bool) (problem : Problem) (early late : Type 0) (outcome : Outcome) → (early → late) → IsNamed reads files word problem → EndCause (Next problem) early outcome → EndCause (OnArgument reads files word Next) late outcome
+  pub end_named : (reads : Bool) (problem : Problem) (early late : Type 0) (outcome : Outcome) → (early → late) → IsNamed reads files word problem
+      → EndCause (Next problem) early outcome → EndCause (OnArgument reads files word Next) late outcome
   end_named true problem early late outcome rose stands is = end_on files word Next problem early late outcome rose stands is
   end_named false problem early late outcome rose made is = end_made problem early late outcome rose made is
 
   -- an outcome that ends the run before
-  pub end_unnamed : (reads : Bool) (early late : Type 0) (outcome : Outcome) → (early → late) → NamedCause reads files word early outcome → EndCause (OnArgument reads files word Next) late outcome
+  pub end_unnamed : (reads : Bool) (early late : Type 0) (outcome : Outcome) → (early → late) → NamedCause reads files word early outcome
+      → EndCause (OnArgument reads files word Next) late outcome
   end_unnamed true early late outcome rose is = end_before files word Next early late outcome rose is
   end_unnamed false early late outcome rose is = subst (EndCause (OnMade word Next) late) (sym is) tt

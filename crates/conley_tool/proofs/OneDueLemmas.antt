@@ -13,7 +13,7 @@ use Rattle.conley_texts.specs.Words.{labels_of}
 use Rattle.conley_transitions.specs.Morse.{set_at}
 use Rattle.conley_transitions.proofs.ClassLemmas.{classes_once}
 use Rattle.conley_graph.specs.Covers.{AreCovers}
-use Rattle.conley_graph.specs.Decomposition.{field_of, HasTooManySets}
+use Rattle.conley_graph.specs.Decomposition.{flow_of, HasTooManySets}
 use Rattle.conley_graph.proofs.OnceLemmas.{finest_once, covers_once, numbers_once}
 use Rattle.conley_input.specs.Problem.{Problem, Reads, IsSound}
 use Rattle.conley_input.proofs.OnceLemmas.{refused_once, not_refused_and_read, read_once, read_prime, read_sound}
@@ -53,21 +53,26 @@ abbrev IsOnce : (Due → Type 0) → Type 0
 IsOnce Is = IsOnceBy (λ a b. a ≡ b) Is
 
 -- a told file has one list of bytes
-held_once : (file_of : List ℕ → Option (List ℕ)) (name : List ℕ) (limit : ℕ) (a b : List ℕ) → Holds (Some file_of) name limit a → Holds (Some file_of) name limit b → a ≡ b
+held_once : (file_of : List ℕ → Option (List ℕ)) (name : List ℕ) (limit : ℕ) (a b : List ℕ) → Holds (Some file_of) name limit a
+    → Holds (Some file_of) name limit b → a ≡ b
 held_once file_of name limit a b r s = let e : Some a ≡ Some b = sym r.told ∙ s.told in cc
 
 -- the three ends of a fetch exclude each other
-held_not_lacking : (file_of : List ℕ → Option (List ℕ)) (name : List ℕ) (limit : ℕ) (bytes : List ℕ) → Holds (Some file_of) name limit bytes → Lacks (Some file_of) name → ⊥
+held_not_lacking : (file_of : List ℕ → Option (List ℕ)) (name : List ℕ) (limit : ℕ) (bytes : List ℕ) → Holds (Some file_of) name limit bytes
+    → Lacks (Some file_of) name → ⊥
 held_not_lacking file_of name limit bytes r s = let e : Some bytes ≡ None = sym r.told ∙ s in cc
 
-held_not_longer : (file_of : List ℕ → Option (List ℕ)) (name : List ℕ) (limit : ℕ) (bytes : List ℕ) → Holds (Some file_of) name limit bytes → IsLonger (Some file_of) name limit → ⊥
-held_not_longer file_of name limit bytes r s = let long = subst (λ (held : Option (List ℕ)). IsSomeAnd held (λ bytes. limit < length bytes)) r.told s in omega (arith, long, r.within)
+held_not_longer : (file_of : List ℕ → Option (List ℕ)) (name : List ℕ) (limit : ℕ) (bytes : List ℕ)
+    → Holds (Some file_of) name limit bytes → IsLonger (Some file_of) name limit → ⊥
+held_not_longer file_of name limit bytes r s = let long = subst (λ (held : Option (List ℕ)). IsSomeAnd held (λ bytes. limit < length bytes)) r.told s in
+    omega (arith, long, r.within)
 
 lacking_not_longer : (file_of : List ℕ → Option (List ℕ)) (name : List ℕ) (limit : ℕ) → Lacks (Some file_of) name → IsLonger (Some file_of) name limit → ⊥
 lacking_not_longer file_of name limit s t = subst (λ (held : Option (List ℕ)). IsSomeAnd held (λ bytes. limit < length bytes)) s t
 
 module _ (Alike : Due → Due → Type 0) (same : (a b : Due) → a ≡ b → Alike a b) where
-  pub after_fetch_once : (file_of : List ℕ → Option (List ℕ)) (name : List ℕ) (limit : ℕ) (Next : List ℕ → Due → Type 0) → ((bytes : List ℕ) → IsOnceBy Alike (Next bytes)) →
+  pub after_fetch_once : (file_of : List ℕ → Option (List ℕ)) (name : List ℕ) (limit : ℕ) (Next : List ℕ → Due → Type 0)
+      → ((bytes : List ℕ) → IsOnceBy Alike (Next bytes)) →
       IsOnceBy Alike (AfterFetch (Some file_of) name limit Next)
   after_fetch_once file_of name limit Next once a b (inl r) (inl s) =
       once r.0 a b r.2 (subst (λ (bytes : List ℕ). Next bytes b) (sym (held_once file_of name limit r.0 s.0 r.1 s.1)) s.2)
@@ -80,8 +85,10 @@ module _ (Alike : Due → Due → Type 0) (same : (a b : Due) → a ≡ b → Al
   after_fetch_once file_of name limit Next once a b (inr (inr r)) (inr (inl s)) = absurd (lacking_not_longer file_of name limit s.0 r.0)
   after_fetch_once file_of name limit Next once a b (inr (inr r)) (inr (inr s)) = same a b (r.1 ∙ sym s.1)
 
-  pub after_problem_once : (bytes : List ℕ) (Next : Problem → Due → Type 0) → ((p : Problem) → Reads bytes p → IsOnceBy Alike (Next p)) → IsOnceBy Alike (AfterProblem bytes Next)
-  after_problem_once bytes Next once a b (inl r) (inl s) = same a b (r.2 ∙ ap (λ f. ends (Refused (fault.File f))) (refused_once bytes r.0 s.0 r.1 s.1) ∙ sym s.2)
+  pub after_problem_once : (bytes : List ℕ) (Next : Problem → Due → Type 0) → ((p : Problem) → Reads bytes p → IsOnceBy Alike (Next p))
+      → IsOnceBy Alike (AfterProblem bytes Next)
+  after_problem_once bytes Next once a b (inl r) (inl s) = same a b (r.2 ∙ ap (λ f. ends (Refused (fault.File f))) (refused_once bytes r.0 s.0 r.1 s.1)
+      ∙ sym s.2)
   after_problem_once bytes Next once a b (inl r) (inr s) = absurd (not_refused_and_read bytes r.0 s.0 r.1 s.1)
   after_problem_once bytes Next once a b (inr r) (inl s) = absurd (not_refused_and_read bytes s.0 r.0 s.1 r.1)
   after_problem_once bytes Next once a b (inr r) (inr s) =
@@ -105,7 +112,8 @@ module _ (Alike : Due → Due → Type 0) (same : (a b : Due) → a ≡ b → Al
   on_made_once word Next once a b r s = once r.0 r.1 a b r.2 (subst (λ (p : Problem). Next p b) (sym (made_once word r.0 s.0 r.1 s.1)) s.2)
 
   -- where things that are due of one problem are alike, so are those of the problem that an argument names
-  on_argument_once : (file_of : List ℕ → Option (List ℕ)) (word : List ℕ) (Next : Problem → Due → Type 0) → ((p : Problem) → IsField (residues p.order) → IsSound p → IsOnceBy Alike (Next p)) →
+  on_argument_once : (file_of : List ℕ → Option (List ℕ)) (word : List ℕ) (Next : Problem → Due → Type 0)
+      → ((p : Problem) → IsField (residues p.order) → IsSound p → IsOnceBy Alike (Next p)) →
       (reads : Bool) → IsOnceBy Alike (OnArgument reads (Some file_of) word Next)
   on_argument_once file_of word Next once true a b r s =
       after_fetch_once Alike same file_of word file_limit (λ bytes. AfterProblem bytes Next)
@@ -120,14 +128,17 @@ classes_once_due p a b r s =
     r.2 ∙ ap prints (r.1.2 ∙ ap (λ classes. text_of (map (labels_of p.complex.labels) classes)) e ∙ sym s.1.2) ∙ sym s.2
 
 -- the lines of two graphs agree
-graph_lines_once : (p : Problem) → IsField (residues p.order) → (g h : MorseGraph) → IsMorseGraphOf p g → IsMorseGraphOf p h → morse_lines p.complex.labels g ≡ morse_lines p.complex.labels h
+graph_lines_once : (p : Problem) → IsField (residues p.order) → (g h : MorseGraph) → IsMorseGraphOf p g → IsMorseGraphOf p h
+    → morse_lines p.complex.labels g ≡ morse_lines p.complex.labels h
 graph_lines_once p laws g h is_g is_h =
     let F = residues p.order in
     let sets : g.sets ≡ h.sets = finest_once p.complex p.part_of g.sets h.sets is_g.sets is_h.sets in
-    let conley = subst (λ (ss : List (List ℕ)). (i : ℕ) → i < length ss → AreConleyNumbers F p.complex (set_at ss i) (set_at h.numbers i)) (sym sets) is_h.numbers in
-    let numbers : g.numbers ≡ h.numbers = numbers_once p.complex g.sets g.numbers h.numbers (numbers_are_one laws p.complex) is_g.numbers_count (is_h.numbers_count ∙ ap length (sym sets)) is_g.numbers conley in
-    let covers = subst (λ (ss : List (List ℕ)). AreCovers (field_of F p.complex p.part_of) ss h.order) (sym sets) is_h.order in
-    let order : g.order ≡ h.order = covers_once (field_of F p.complex p.part_of) g.sets g.order h.order is_g.order covers in
+    let conley = subst (λ (ss : List (List ℕ)). (i : ℕ) → i < length ss → AreConleyNumbers F p.complex (set_at ss i) (set_at h.numbers i)) (sym sets)
+    is_h.numbers in
+    let numbers : g.numbers ≡ h.numbers = numbers_once p.complex g.sets g.numbers h.numbers (numbers_are_one laws p.complex) is_g.numbers_count
+    (is_h.numbers_count ∙ ap length (sym sets)) is_g.numbers conley in
+    let covers = subst (λ (ss : List (List ℕ)). AreCovers (flow_of F p.complex p.part_of) ss h.order) (sym sets) is_h.order in
+    let order : g.order ≡ h.order = covers_once (flow_of F p.complex p.part_of) g.sets g.order h.order is_g.order covers in
     let lines = λ (ss ns : List (List ℕ)) (os : List (ℕ × ℕ)). morse_lines p.complex.labels (record { sets = ss; numbers = ns; order = os }) in
     ap (λ ss. lines ss g.numbers g.order) sets ∙ ap (λ ns. lines h.sets ns g.order) numbers ∙ ap (λ os. lines h.sets h.numbers os) order
 
@@ -142,8 +153,10 @@ many_once p a b r s =
 
 morse_once_due : (p : Problem) → IsField (residues p.order) → IsOnce (MorseIsDue p)
 morse_once_due p laws a b (inl r) (inl s) = many_once p a b r s
-morse_once_due p laws a b (inl r) (inr s) = let e = ap length (finest_once p.complex p.part_of r.1.1.0 s.0.sets r.1.1.1 s.1.sets) in absurd (omega (arith, e, r.1.0, r.1.1.2, s.2))
-morse_once_due p laws a b (inr r) (inl s) = let e = ap length (finest_once p.complex p.part_of s.1.1.0 r.0.sets s.1.1.1 r.1.sets) in absurd (omega (arith, e, s.1.0, s.1.1.2, r.2))
+morse_once_due p laws a b (inl r) (inr s) = let e = ap length (finest_once p.complex p.part_of r.1.1.0 s.0.sets r.1.1.1 s.1.sets) in
+    absurd (omega (arith, e, r.1.0, r.1.1.2, s.2))
+morse_once_due p laws a b (inr r) (inl s) = let e = ap length (finest_once p.complex p.part_of s.1.1.0 r.0.sets s.1.1.1 r.1.sets) in
+    absurd (omega (arith, e, s.1.0, s.1.1.2, r.2))
 morse_once_due p laws a b (inr r) (inr s) = r.3 ∙ ap (λ lines. prints (text_of lines)) (graph_lines_once p laws r.0 s.0 r.1 s.1) ∙ sym s.3
 
 sets_once_due : (p : Problem) → IsField (residues p.order) → IsOnce (SetsAreDue p)
@@ -158,12 +171,15 @@ verdict_once P C a b (inr r) (inr s) =
     let same : r.1.0 ≡ s.1.0 = cc in
     r.1.2 ∙ ap (λ reason. ends (Rejected reason)) same ∙ sym s.1.2
 
-check_once_due : (file_of : List ℕ → Option (List ℕ)) (name : List ℕ) (p : Problem) → IsLayout (residues p.order) p.complex → IsOnce (CheckIsDue (Some file_of) name p)
+check_once_due : (file_of : List ℕ → Option (List ℕ)) (name : List ℕ) (p : Problem) → IsLayout (residues p.order) p.complex
+    → IsOnce (CheckIsDue (Some file_of) name p)
 check_once_due file_of name p laws =
-    after_fetch_once (λ a b. a ≡ b) (λ a b e. e) file_of name certificate_limit (λ bytes. AfterCertificate (residues p.order) p.complex bytes (VerdictIsDue (in_full p))) (λ bytes. certificate_once bytes)
+    after_fetch_once (λ a b. a ≡ b) (λ a b e. e) file_of name certificate_limit (λ bytes. AfterCertificate (residues p.order) p.complex bytes
+    (VerdictIsDue (in_full p))) (λ bytes. certificate_once bytes)
   where
     certificate_once : (bytes : List ℕ) → IsOnce (AfterCertificate (residues p.order) p.complex bytes (VerdictIsDue (in_full p)))
-    certificate_once bytes a b (inl r) (inl s) = r.2 ∙ ap (λ f. ends (Refused (fault.Cert f))) (certificates.refused_once (residues p.order) p.complex bytes r.0 s.0 r.1 s.1) ∙ sym s.2
+    certificate_once bytes a b (inl r) (inl s) = r.2 ∙ ap (λ f. ends (Refused (fault.Cert f)))
+        (certificates.refused_once (residues p.order) p.complex bytes r.0 s.0 r.1 s.1) ∙ sym s.2
     certificate_once bytes a b (inl r) (inr s) = absurd (certificates.not_refused_and_read (residues p.order) p.complex bytes r.0 s.0 r.1 s.1)
     certificate_once bytes a b (inr r) (inl s) = absurd (certificates.not_refused_and_read (residues p.order) p.complex bytes s.0 r.0 s.1 r.1)
     certificate_once bytes a b (inr r) (inr s) =
@@ -171,7 +187,8 @@ check_once_due file_of name p laws =
         verdict_once (in_full p) r.0 a b r.2 (subst (λ (C : Certificate). VerdictIsDue (in_full p) C b) (sym same) s.2)
 
 -- an analysis has the sets of the finest decomposition
-many_and_few : (p : Problem) (count : ℕ) → HasTooManySets (residues p.order) p.complex p.part_of count → (C : Certificate) → IsAnalysis (in_full p) C → length C.morse ≤ 2000 → ⊥
+many_and_few : (p : Problem) (count : ℕ) → HasTooManySets (residues p.order) p.complex p.part_of count → (C : Certificate) → IsAnalysis (in_full p) C
+    → length C.morse ≤ 2000 → ⊥
 many_and_few p count many C analysis few =
     let listed = analysis.graph in
     let e = ap length (finest_once p.complex p.part_of many.1.0 listed.sets many.1.1 listed.graph.sets) in
@@ -193,7 +210,8 @@ summary_alike p a b (inr r) (inr s) = inr (inr (p, r, s))
 
 -- ---- all commands
 
-due_on_once : (verb : Verb) (file_of : List ℕ → Option (List ℕ)) (arguments : List (List ℕ)) (p : Problem) → ¬ ((verb ≡ Analyze) ⊎ (verb ≡ Trial)) → IsField (residues p.order) → IsSound p →
+due_on_once : (verb : Verb) (file_of : List ℕ → Option (List ℕ)) (arguments : List (List ℕ)) (p : Problem) → ¬ ((verb ≡ Analyze) ⊎ (verb ≡ Trial))
+    → IsField (residues p.order) → IsSound p →
     IsOnce (IsDueOn verb (Some file_of) arguments p)
 due_on_once Classes file_of arguments p other laws sound a b r s = classes_once_due p a b r s
 due_on_once Field file_of arguments p other laws sound a b r s = field_once_due p a b r s
@@ -203,7 +221,8 @@ due_on_once Analyze file_of arguments p other laws sound a b r s = absurd (other
 due_on_once Check file_of arguments p other laws sound a b r s = check_once_due file_of _ p sound.laws a b r s
 due_on_once Trial file_of arguments p other laws sound a b r s = absurd (other (inr refl))
 
-due_on_alike : (verb : Verb) (file_of : List ℕ → Option (List ℕ)) (arguments : List (List ℕ)) (p : Problem) → IsField (residues p.order) → IsSound p → IsOnceBy AreAlike (IsDueOn verb (Some file_of) arguments p)
+due_on_alike : (verb : Verb) (file_of : List ℕ → Option (List ℕ)) (arguments : List (List ℕ)) (p : Problem) → IsField (residues p.order) → IsSound p
+    → IsOnceBy AreAlike (IsDueOn verb (Some file_of) arguments p)
 due_on_alike Classes file_of arguments p laws sound a b r s = inl (classes_once_due p a b r s)
 due_on_alike Field file_of arguments p laws sound a b r s = inl (field_once_due p a b r s)
 due_on_alike Morse file_of arguments p laws sound a b r s = inl (morse_once_due p laws a b r s)
@@ -212,13 +231,17 @@ due_on_alike Analyze file_of arguments p laws sound a b r s = analysis_alike p a
 due_on_alike Check file_of arguments p laws sound a b r s = inl (check_once_due file_of _ p sound.laws a b r s)
 due_on_alike Trial file_of arguments p laws sound a b r s = summary_alike p a b r s
 
-pub due_once : (file_of : List ℕ → Option (List ℕ)) (command : Option Command) → ¬ Analyzes command → (a b : Due) → IsDue (Some file_of) command a → IsDue (Some file_of) command b → a ≡ b
+pub due_once : (file_of : List ℕ → Option (List ℕ)) (command : Option Command) → ¬ Analyzes command → (a b : Due) → IsDue (Some file_of) command a
+    → IsDue (Some file_of) command b → a ≡ b
 due_once file_of None other a b r s = r ∙ sym s
 due_once file_of (Some command) other a b r s =
-    on_argument_once (λ (x y : Due). x ≡ y) (λ x y e. e) file_of _ (IsDueOn command.verb (Some file_of) command.arguments) (λ p. due_on_once command.verb file_of command.arguments p other) (reads_file command.verb) a b r s
+    on_argument_once (λ (x y : Due). x ≡ y) (λ x y e. e) file_of _ (IsDueOn command.verb (Some file_of) command.arguments)
+    (λ p. due_on_once command.verb file_of command.arguments p other) (reads_file command.verb) a b r s
 
-pub due_alike : (file_of : List ℕ → Option (List ℕ)) (command : Option Command) (a b : Due) → IsDue (Some file_of) command a → IsDue (Some file_of) command b → AreAlike a b
+pub due_alike : (file_of : List ℕ → Option (List ℕ)) (command : Option Command) (a b : Due) → IsDue (Some file_of) command a → IsDue (Some file_of) command b
+    → AreAlike a b
 due_alike file_of None a b r s = inl (r ∙ sym s)
 due_alike file_of (Some command) a b r s =
     let same : (x y : Due) → x ≡ y → AreAlike x y = λ x y e. inl e in
-    on_argument_once AreAlike same file_of _ (IsDueOn command.verb (Some file_of) command.arguments) (due_on_alike command.verb file_of command.arguments) (reads_file command.verb) a b r s
+    on_argument_once AreAlike same file_of _ (IsDueOn command.verb (Some file_of) command.arguments) (due_on_alike command.verb file_of command.arguments)
+    (reads_file command.verb) a b r s

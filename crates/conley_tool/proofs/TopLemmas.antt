@@ -21,7 +21,8 @@ module _ (files : Files) (name : List ℕ) (limit : ℕ) (Next : List ℕ → Du
   held_due bytes what holds next = inl (bytes, holds, next)
 
   -- an outcome that ends the run once the file is fetched
-  pub held_ends : (bytes : List ℕ) (early late : Type 0) (outcome : Outcome) → (early → late) → Holds files name limit bytes → EndCause (Next bytes) early outcome → EndCause (AfterFetch files name limit Next) late outcome
+  pub held_ends : (bytes : List ℕ) (early late : Type 0) (outcome : Outcome) → (early → late) → Holds files name limit bytes
+      → EndCause (Next bytes) early outcome → EndCause (AfterFetch files name limit Next) late outcome
   held_ends bytes early late (Refused fault) rose holds is = held_due bytes _ holds is
   held_ends bytes early late (Rejected reason) rose holds is = held_due bytes _ holds is
   held_ends bytes early late TooLong rose holds is = held_due bytes _ holds is
@@ -34,7 +35,8 @@ module _ (files : Files) (name : List ℕ) (limit : ℕ) (Next : List ℕ → Du
   held_ends bytes early late WriteFault rose holds is = is
 
   -- an outcome of the fetch itself
-  pub fetch_ends : (early late : Type 0) (outcome : Outcome) → (early → late) → FetchCause files name limit early outcome → EndCause (AfterFetch files name limit Next) late outcome
+  pub fetch_ends : (early late : Type 0) (outcome : Outcome) → (early → late) → FetchCause files name limit early outcome
+      → EndCause (AfterFetch files name limit Next) late outcome
   fetch_ends early late TooLong rose is = inr (inr (is, refl))
   fetch_ends early late ReadFault rose (inl read) = inl (rose read)
   fetch_ends early late ReadFault rose (inr lacks) = inr (inr (inl (lacks, refl)))
@@ -54,7 +56,8 @@ module _ (files : Files) (file : List ℕ) (Next : Problem → Due → Type 0) w
   due_on problem what (bytes, holds, reads) next = inl (bytes, holds, inr (problem, reads, next))
 
   -- an outcome that ends the run once the problem is read
-  pub end_on : (problem : Problem) (early late : Type 0) (outcome : Outcome) → (early → late) → StandsFor files file problem → EndCause (Next problem) early outcome → EndCause (OnProblem files file Next) late outcome
+  pub end_on : (problem : Problem) (early late : Type 0) (outcome : Outcome) → (early → late) → StandsFor files file problem
+      → EndCause (Next problem) early outcome → EndCause (OnProblem files file Next) late outcome
   end_on problem early late (Refused fault) rose stands is = due_on problem _ stands is
   end_on problem early late (Rejected reason) rose stands is = due_on problem _ stands is
   end_on problem early late TooLong rose stands is = due_on problem _ stands is
@@ -67,7 +70,8 @@ module _ (files : Files) (file : List ℕ) (Next : Problem → Due → Type 0) w
   end_on problem early late WriteFault rose stands is = is
 
   -- an outcome that ends the run before
-  pub end_before : (early late : Type 0) (outcome : Outcome) → (early → late) → ProblemCause files file early outcome → EndCause (OnProblem files file Next) late outcome
+  pub end_before : (early late : Type 0) (outcome : Outcome) → (early → late) → ProblemCause files file early outcome
+      → EndCause (OnProblem files file Next) late outcome
   end_before early late (Refused (fault.File fault)) rose (bytes, holds, refuses) = inl (bytes, holds, inl (fault, refuses, refl))
   end_before early late (Refused (fault.Morse count)) rose is = absurd is
   end_before early late (Refused (fault.Cert fault)) rose is = absurd is
@@ -87,6 +91,7 @@ pub answered : (Is : Due → Type 0) (read write : Type 0) (answer : Answer) →
 answered Is read write (Prints text) is = (text.items, is)
 answered Is read write Accepts is = is
 
-pub answer_gained : (Is : Due → Type 0) (old new : Written) (answer : Answer) → Is (due_of answer) → new ≡ gains old (due_of answer).text → Gains Is old new (due_of answer).outcome
+pub answer_gained : (Is : Due → Type 0) (old new : Written) (answer : Answer) → Is (due_of answer) → new ≡ gains old (due_of answer).text
+    → Gains Is old new (due_of answer).outcome
 answer_gained Is old new (Prints text) is put = (text.items, is, put)
 answer_gained Is old new Accepts is put = (is, put)

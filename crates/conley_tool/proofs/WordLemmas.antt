@@ -47,7 +47,8 @@ found_none word n le = ap (λ m. find (λ k. bytes_eq word (decimal k)) (range_w
     none n le = omega (arith, le)
 
 -- where the argument of a verb names no file, it is the text of a number
-pub says_number : (verb : Verb) (arguments : List (List ℕ)) → are_arguments_of verb arguments ≡ true → reads_file verb ≡ false → is_some (number_of (get_or arguments 0 [])) ≡ true
+pub says_number : (verb : Verb) (arguments : List (List ℕ)) → are_arguments_of verb arguments ≡ true → reads_file verb ≡ false
+    → is_some (number_of (get_or arguments 0 [])) ≡ true
 says_number Classes arguments e f = absurd (false≢true (sym f))
 says_number Field arguments e f = absurd (false≢true (sym f))
 says_number Morse arguments e f = absurd (false≢true (sym f))

@@ -9,7 +9,7 @@
 --     graph_of found                             the Morse graph of a decomposition that was found
 use Rattle.std.specs.Prelude.{◌≡◌, ◌⊎◌, ℕ, List, Bool, true, false}
 use Rattle.conley_outside.specs.Depot.{Files, Lacks}
-use Rattle.conley_walk.specs.Lists.{items_of}
+use Rattle.conley_lists.specs.Lists.{items_of}
 use Rattle.conley_morse.specs.declared.decomposition.Decomposition.{Decomposition}
 use Rattle.conley_input.specs.Problem.{Problem, Reads, Refuses}
 use Rattle.conley_tool.specs.Due.{Due, ends, prints, accepts}

@@ -5,8 +5,9 @@
 --     IsDue files command what         what is due for words that name a command or none: a relation, since walks decide
 --     Analyzes command                 the command is `analyze` or `trial`
 --     IsDueFor files words what        what is due for the words themselves
--- Where files are told, at most one thing is due, but for `analyze` and `trial`, where several texts can be. Fetches.antt has the steps that every command with a file begins with,
--- Outcomes.antt the causes of outcomes, and a module of its name what a command prints or refuses.
+-- Where files are told, at most one thing is due, but for `analyze` and `trial`, where several texts can be.
+-- Fetches.antt has the steps that every command with a file begins with, Outcomes.antt the causes of outcomes,
+-- and a module of its name what a command prints or refuses.
 -- The wording is this project's own.
 use Rattle.std.specs.Prelude.{◌≡◌, ◌⊎◌, ℕ, List, [], map, slice_index_or, Bool, true, false, Option, Some, None, string_bytes}
 use Rattle.std.specs.declared.alloc.Global.{Global}
@@ -42,7 +43,8 @@ OnArgument true files word Next what = OnProblem files word Next what
 OnArgument false files word Next what = OnMade word Next what
 
 abbrev pub IsDueOf : Files → Command → Due → Type 0
-IsDueOf files command what = OnArgument (reads_file command.verb) files (slice_index_or command.arguments 0 []) (IsDueOn command.verb files command.arguments) what
+IsDueOf files command what = OnArgument (reads_file command.verb) files (slice_index_or command.arguments 0 []) (IsDueOn command.verb files command.arguments)
+    what
 
 abbrev pub IsDue : Files → Option Command → Due → Type 0
 IsDue files None what = what ≡ ends Usage

@@ -21,8 +21,10 @@ use std::alloc::Global;
 /// The verdict on the certificate that bytes stand for, or their refusal.
 fn verdict_on(alloc: Global, problem: &Problem, bytes: &[u8]) -> Result<Answer, Outcome>
     requires { IsSound (meaning_of problem.now) }
-    ensures ok { IfOk result (λ answer. AfterCertificate (residues (meaning_of problem.now).order) problem.now.complex.1 bytes.now (VerdictIsDue (in_full (meaning_of problem.now))) (due_of answer)) }
-    ensures err { IfErr result (EndCause (AfterCertificate (residues (meaning_of problem.now).order) problem.now.complex.1 bytes.now (VerdictIsDue (in_full (meaning_of problem.now)))) ⊥) }
+    ensures ok { IfOk result (λ answer. AfterCertificate (residues (meaning_of problem.now).order) problem.now.complex.1 bytes.now
+        (VerdictIsDue (in_full (meaning_of problem.now))) (due_of answer)) }
+    ensures err { IfErr result (EndCause (AfterCertificate (residues (meaning_of problem.now).order) problem.now.complex.1 bytes.now
+        (VerdictIsDue (in_full (meaning_of problem.now)))) ⊥) }
 {
     match check_text(alloc, bytes, &problem.complex, &problem.partition) {
         Ok(Ok(())) => Ok(Answer::Accepts),

@@ -23,7 +23,8 @@ fn push_part<'x>(
     regular: bool,
 ) -> Result<(), AllocError>
     requires { All (λ x. x < length problem.now.complex.1.dims) cells.now }
-    ensures { OnOk result (text.new.items ≡ text.old.items ++ line ((if regular then codes "regular" else codes "critical") ∷ labels_of problem.now.complex.1.labels cells.now)) }
+    ensures { OnOk result (text.new.items ≡ text.old.items ++ line ((if regular then codes "regular" else codes "critical") ∷ labels_of
+        problem.now.complex.1.labels cells.now)) }
 {
     let kind = if regular { "regular" } else { "critical" };
     push_line(

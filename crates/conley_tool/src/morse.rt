@@ -1,7 +1,7 @@
 //! `morse FILE`: the Morse sets of a problem with their Conley indices and their order.
 
 ghost use Rattle.std.specs.Prelude.{◌≡◌, ◌<◌, ◌++◌, All, ℕ, OnOk, IfOk, IfErr, length};
-ghost use Rattle.conley_walk.specs.Lists.{items_of};
+ghost use Rattle.conley_lists.specs.Lists.{items_of};
 ghost use Rattle.conley_transitions.specs.Morse.{set_at};
 ghost use Rattle.conley_input.specs.Problem.{IsSound};
 ghost use Rattle.conley_input.specs.ProblemMeaning.{meaning_of};

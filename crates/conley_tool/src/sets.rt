@@ -59,7 +59,8 @@ fn push_set<'x>(
 /// A line for each named set, in their order.
 fn sets_text(alloc: Global, problem: &Problem) -> Result<Vec<u8>, AllocError>
     requires { IsSound (meaning_of problem.now) }
-    ensures { IfOk result (λ text. (lines : List (List (List ℕ))) × AreSetLines (meaning_of problem.now) (meaning_of problem.now).sets lines × (text.items ≡ text_of lines)) }
+    ensures { IfOk result (λ text. (lines : List (List (List ℕ))) × AreSetLines (meaning_of problem.now) (meaning_of problem.now).sets lines
+        × (text.items ≡ text_of lines)) }
 {
     let complex = &problem.complex;
     let mut text = Vec::new(alloc);

@@ -40,8 +40,10 @@ fn answer_on<D: Depot>(
 ) -> Result<Answer, Outcome>
     requires sound { IsSound (read.meaning_of problem.now) }
     requires counted { length command.now.arguments.now ≡ length (spec.arguments_of command.now.verb) }
-    ensures ok { IfOk result (λ answer. IsDueOn command.now.verb (D.files depot.old) (meaning_of command.now).arguments (read.meaning_of problem.now) (due_of answer)) }
-    ensures err { IfErr result (EndCause (IsDueOn command.now.verb (D.files depot.old) (meaning_of command.now).arguments (read.meaning_of problem.now)) (Rose (D.faults depot.old) (D.faults depot.new))) }
+    ensures ok { IfOk result (λ answer. IsDueOn command.now.verb (D.files depot.old) (meaning_of command.now).arguments (read.meaning_of problem.now)
+        (due_of answer)) }
+    ensures err { IfErr result (EndCause (IsDueOn command.now.verb (D.files depot.old) (meaning_of command.now).arguments (read.meaning_of problem.now))
+        (Rose (D.faults depot.old) (D.faults depot.new))) }
     ensures same_files { D.files depot.new ≡ D.files depot.old }
     ensures later { D.faults depot.old ≤ D.faults depot.new }
 {
@@ -101,7 +103,8 @@ fn outcome_of<D: Depot, O: Sink>(
     out: &mut O,
 ) -> Outcome
     ensures usage { command_of (map string_bytes words.now) ≡ None → result ≡ Outcome.Usage }
-    ensures cause { HasCause (IsDueFor (D.files depot.old) words.now) (Rose (D.faults depot.old) (D.faults depot.new)) (Rose (O.faults out.old) (O.faults out.new)) result }
+    ensures cause { HasCause (IsDueFor (D.files depot.old) words.now) (Rose (D.faults depot.old) (D.faults depot.new))
+        (Rose (O.faults out.old) (O.faults out.new)) result }
     ensures gains { Gains (IsDueFor (D.files depot.old) words.now) (O.written out.old) (O.written out.new) result }
     ensures same_files { D.files depot.new ≡ D.files depot.old }
 {
@@ -136,7 +139,8 @@ pub fn run<D: Depot, O: Sink, E: Sink>(
     ensures usage { command_of (map string_bytes words.now) ≡ None → result ≡ Outcome.Usage }
 
     // Each outcome has its cause.
-    ensures cause { HasCause (IsDueFor (D.files depot.old) words.now) (Rose (D.faults depot.old) (D.faults depot.new)) (Rose (O.faults out.old) (O.faults out.new)) result }
+    ensures cause { HasCause (IsDueFor (D.files depot.old) words.now) (Rose (D.faults depot.old) (D.faults depot.new))
+        (Rose (O.faults out.old) (O.faults out.new)) result }
 
     // Where no count rose, the outcome is one that is due, memory apart.
     ensures complete { ¬ (Rose (D.faults depot.old) (D.faults depot.new)) → ¬ (Rose (O.faults out.old) (O.faults out.new)) →

@@ -4,24 +4,26 @@ use Rattle.std.specs.Prelude.{Contains, ◌↔◌, slice_index}
 use Rattle.std.proofs.lemmas.List.{get_or_default}
 use Rattle.std.proofs.lemmas.List.Elements.{Contains-get_or}
 use Rattle.conley_walk.specs.Walk.{Reaches}
-use Rattle.conley_walk.specs.Lists.{ListedStep}
-use Rattle.conley_walk.specs.Gathered.{AreGathered}
-use Rattle.conley_walk.proofs.AscendingLemmas.{ascending_once, same_numbers}
+use Rattle.conley_lists.specs.Lists.{ListedStep}
+use Rattle.conley_lists.specs.Gathered.{AreGathered}
+use Rattle.conley_lists.proofs.AscendingLemmas.{ascending_once, same_numbers}
 use Rattle.conley_walk.proofs.WalkLemmas.{reaches_on, reaches_by_step, reaches_least}
-use Rattle.conley_walk.proofs.ListLemmas.{All-from_contained, place_of, at_least, step_begins}
+use Rattle.conley_lists.proofs.ListLemmas.{All-from_contained, place_of, at_least, step_begins}
 use Rattle.conley_faces.specs.Face.{IsCellList, IsLocallyClosed}
 use Rattle.conley_digraph.specs.Classes.{AreClasses}
-use Rattle.conley_transitions.specs.Field.{Field, IsField, IsCell, StepOf}
+use Rattle.conley_transitions.specs.Flow.{Flow, IsFlow, IsCell, StepOf}
 use Rattle.conley_transitions.specs.Morse.{set_at}
 use Rattle.conley_transitions.proofs.FinestLemmas.{step_cells}
 use Rattle.conley_transitions.specs.Classes.{AreRecurrenceClasses}
 
-module _ (field : Field) (ok : IsField field) (digraph : List (List ℕ)) (count : length digraph ≡ length field.part_of) (reach : (x y : ℕ) → Reaches (ListedStep digraph) x y ↔ Reaches (StepOf field) x y) where
+module _ (flow : Flow) (ok : IsFlow flow) (digraph : List (List ℕ)) (count : length digraph ≡ length flow.part_of)
+    (reach : (x y : ℕ) → Reaches (ListedStep digraph) x y ↔ Reaches (StepOf flow) x y) where
   -- what a cell reaches is a cell
-  reached_cell : (x y : ℕ) → IsCell field x → Reaches (StepOf field) x y → IsCell field y
-  reached_cell x y cell r = reaches_least (IsCell field) (λ a b s h. (step_cells field ok a b s).1) r cell
+  reached_cell : (x y : ℕ) → IsCell flow x → Reaches (StepOf flow) x y → IsCell flow y
+  reached_cell x y cell r = reaches_least (IsCell flow) (λ a b s h. (step_cells flow ok a b s).1) r cell
 
-  pub gathered_classes : (class_of : List ℕ) (lists : List (List ℕ)) → AreClasses digraph class_of → AreGathered class_of (length class_of) lists → AreRecurrenceClasses field.faces field.part_of lists
+  pub gathered_classes : (class_of : List ℕ) (lists : List (List ℕ)) → AreClasses digraph class_of → AreGathered class_of (length class_of) lists
+      → AreRecurrenceClasses flow.faces flow.part_of lists
   gathered_classes class_of lists classes parts = record {
     non_empty = λ k lt.
         let w = parts.used k lt in
@@ -49,17 +51,18 @@ module _ (field : Field) (ok : IsField field) (digraph : List (List ℕ)) (count
         let w = classes.in_order (slice_index (set_at lists k) 0) j (node (slice_index (set_at lists k) 0) p.0) (omega (arith, jk, p.1)) in
         let h : Contains (set_at lists j) w.0 = (parts.same j w.0).1 (omega (arith, w.1, p.0), w.2) in
         let at = place_of (set_at lists j) w.0 h in
-        let least : slice_index (set_at lists j) 0 ≤ slice_index (set_at lists j) at.0 = at_least (set_at lists j) (parts.ascending j) 0 at.0 (λ none. absurd (omega (arith, none))) at.1 in
+        let least : slice_index (set_at lists j) 0 ≤ slice_index (set_at lists j) at.0 = at_least (set_at lists j) (parts.ascending j) 0 at.0
+        (λ none. absurd (omega (arith, none))) at.1 in
         omega (arith, least, at.2, w.1);
   }
     where
-      cell : (x : ℕ) → x < length class_of → IsCell field x
+      cell : (x : ℕ) → x < length class_of → IsCell flow x
       cell x lt = omega (arith, lt, classes.count, count)
 
       node : (x : ℕ) → x < length class_of → x < length digraph
       node x lt = omega (arith, lt, classes.count)
 
-      place : (x : ℕ) → IsCell field x → x < length class_of
+      place : (x : ℕ) → IsCell flow x → x < length class_of
       place x lt = omega (arith, lt, classes.count, count)
 
       first : (k : ℕ) → k < length lists → Contains (set_at lists k) (slice_index (set_at lists k) 0)
@@ -69,18 +72,18 @@ module _ (field : Field) (ok : IsField field) (digraph : List (List ℕ)) (count
           Contains-get_or (set_at lists k) 0 0 (omega (arith, h.1))
 
 -- a class is a list of cells without a gap
-module _ (field : Field) (ok : IsField field) (lists : List (List ℕ)) (classes : AreRecurrenceClasses field.faces field.part_of lists) (k : ℕ) where
-  pub class_cells : IsCellList field.faces (set_at lists k)
+module _ (flow : Flow) (ok : IsFlow flow) (lists : List (List ℕ)) (classes : AreRecurrenceClasses flow.faces flow.part_of lists) (k : ℕ) where
+  pub class_cells : IsCellList flow.faces (set_at lists k)
   class_cells = record {
     ascending = classes.ascending k;
-    cells = All-from_contained (λ x. x < length field.faces) (set_at lists k) (λ x h. omega (arith, classes.cells k x h, ok.parts));
+    cells = All-from_contained (λ x. x < length flow.faces) (set_at lists k) (λ x h. omega (arith, classes.cells k x h, ok.parts));
   }
 
-  pub class_closed : IsLocallyClosed field.faces (set_at lists k)
+  pub class_closed : IsLocallyClosed flow.faces (set_at lists k)
   class_closed x y z gap =
       let back = (classes.same k z x gap.lower).0 gap.upper in
-      let down = reaches_by_step {Step = StepOf field} {x = x} {y = y} (inl gap.down) in
-      let further = reaches_by_step {Step = StepOf field} {x = y} {y = z} (inl gap.further) in
+      let down = reaches_by_step {Step = StepOf flow} {x = x} {y = y} (inl gap.down) in
+      let further = reaches_by_step {Step = StepOf flow} {x = y} {y = z} (inl gap.further) in
       gap.outside ((classes.same k x y gap.upper).1 (record { there = down; back = reaches_on further back.there }))
 
 -- the first cell of one list is below that of the other
@@ -88,7 +91,8 @@ abbrev pub IsFirstBelow : List ℕ → List ℕ → Type 0
 IsFirstBelow a b = slice_index a 0 < slice_index b 0
 
 -- a class of one list of classes is one of the other
-module _ (faces : List (List ℕ)) (part_of : List ℕ) (a b : List (List ℕ)) (first : AreRecurrenceClasses faces part_of a) (second : AreRecurrenceClasses faces part_of b) where
+module _ (faces : List (List ℕ)) (part_of : List ℕ) (a b : List (List ℕ)) (first : AreRecurrenceClasses faces part_of a)
+    (second : AreRecurrenceClasses faces part_of b) where
   class_in : (cells : List ℕ) → Contains a cells → Contains b cells
   class_in cells at =
       let x = slice_index (set_at a at.0) 0 in
@@ -101,6 +105,8 @@ module _ (faces : List (List ℕ)) (part_of : List ℕ) (a b : List (List ℕ)) 
       let is : set_at b there.0 ≡ cells = sym same ∙ get_or_default a at.0 [] cells at.1 ∙ at.2 in
       subst (λ (s : List ℕ). Contains b s) is (Contains-get_or b there.0 [] there.1.0)
 
-pub classes_once : (faces : List (List ℕ)) (part_of : List ℕ) (a b : List (List ℕ)) → AreRecurrenceClasses faces part_of a → AreRecurrenceClasses faces part_of b → a ≡ b
+pub classes_once : (faces : List (List ℕ)) (part_of : List ℕ) (a b : List (List ℕ)) → AreRecurrenceClasses faces part_of a
+    → AreRecurrenceClasses faces part_of b → a ≡ b
 classes_once faces part_of a b first second =
-    ascending_once IsFirstBelow (λ x y less more. omega arith) [] a b first.in_order second.in_order (λ cells. (class_in faces part_of a b first second cells, class_in faces part_of b a second first cells))
+    ascending_once IsFirstBelow (λ x y less more. omega arith) [] a b first.in_order second.in_order
+    (λ cells. (class_in faces part_of a b first second cells, class_in faces part_of b a second first cells))

@@ -6,13 +6,14 @@ use Rattle.std.proofs.lemmas.Bool.{cases_eq, cases_lt}
 use Rattle.std.proofs.lemmas.List.Elements.{Contains-get_or, Contains-push, Contains-push_cases, Contains-append_left}
 use Rattle.conley_walk.specs.Walk.{Reaches}
 use Rattle.conley_walk.proofs.WalkLemmas.{reaches_itself, reaches_on, reaches_by_step}
-use Rattle.conley_walk.proofs.ListLemmas.{Contains-none, place_of, rises, at_least, stands_before, increasing-push, All-from_contained}
+use Rattle.conley_lists.proofs.ListLemmas.{Contains-none, place_of, rises, at_least, stands_before, increasing-push, All-from_contained}
 use Rattle.conley_mvf.specs.Partition.{IsInPart, ShareAPart}
 use Rattle.conley_transitions.specs.Step.{IsNext}
 use Rattle.conley_transitions.specs.Making.{IsNextIn}
 
 -- the ascending list of the cells of the part of x
-module _ (part_of : List ℕ) (x : ℕ) (cells : List ℕ) (up : IsStrictlyIncreasing cells) (same : (y : ℕ) → Contains cells y ↔ IsInPart part_of (slice_index part_of x) y) where
+module _ (part_of : List ℕ) (x : ℕ) (cells : List ℕ) (up : IsStrictlyIncreasing cells) (same : (y : ℕ) → Contains cells y
+    ↔ IsInPart part_of (slice_index part_of x) y) where
   -- a cell of the part, and its place
   listed : (y : ℕ) → ShareAPart part_of x y → (k : ℕ) × (k < length cells) × (get_or cells k 0 ≡ y)
   listed y s = place_of cells y ((same y).1 s.1)
@@ -74,7 +75,8 @@ next_is_one part_of x y z a b = elim a.next [
 ]
 
 -- the first n cells of a part, in an ascending list
-part_cells : (part_of : List ℕ) (p n : ℕ) → n ≤ length part_of → (cells : List ℕ) × IsStrictlyIncreasing cells × ((y : ℕ) → Contains cells y ↔ ((y < n) × IsInPart part_of p y))
+part_cells : (part_of : List ℕ) (p n : ℕ) → n ≤ length part_of → (cells : List ℕ) × IsStrictlyIncreasing cells
+    × ((y : ℕ) → Contains cells y ↔ ((y < n) × IsInPart part_of p y))
 part_cells part_of p zero le = ([], (λ k lt. absurd (omega arith)), λ y. ((λ c. Contains-none y c), (λ s. absurd (omega (arith, s.0)))))
 part_cells part_of p (suc n) le =
     let before = part_cells part_of p n (omega arith) in
@@ -107,15 +109,18 @@ part_cells part_of p (suc n) le =
     ]
 
 -- where each number of a list steps to the next, and the last to the first, each reaches each
-module _ (R : ℕ → ℕ → Type 0) (cells : List ℕ) (on : (k : ℕ) → k + 1 < length cells → R (get_or cells k 0) (get_or cells (k + 1) 0)) (round : 1 < length cells → R (get_or cells (length cells - 1) 0) (get_or cells 0 0)) where
+module _ (R : ℕ → ℕ → Type 0) (cells : List ℕ) (on : (k : ℕ) → k + 1 < length cells → R (get_or cells k 0) (get_or cells (k + 1) 0))
+    (round : 1 < length cells → R (get_or cells (length cells - 1) 0) (get_or cells 0 0)) where
   forward : (d i : ℕ) → i + d < length cells → Reaches R (get_or cells i 0) (get_or cells (i + d) 0)
   forward zero i lt = subst (λ k. Reaches R (get_or cells i 0) (get_or cells k 0)) (let e : i ≡ i + zero = omega arith in e) (reaches_itself (get_or cells i 0))
   forward (suc d) i lt =
       let step = reaches_by_step {Step = R} {x = get_or cells (i + d) 0} {y = get_or cells (i + d + 1) 0} (on (i + d) (omega arith)) in
-      subst (λ k. Reaches R (get_or cells i 0) (get_or cells k 0)) (let e : i + d + 1 ≡ i + suc d = omega arith in e) (reaches_on (forward d i (omega arith)) step)
+      subst (λ k. Reaches R (get_or cells i 0) (get_or cells k 0)) (let e : i + d + 1 ≡ i + suc d = omega arith in e)
+      (reaches_on (forward d i (omega arith)) step)
 
   between : (i j : ℕ) → i ≤ j → j < length cells → Reaches R (get_or cells i 0) (get_or cells j 0)
-  between i j le lt = subst (λ k. Reaches R (get_or cells i 0) (get_or cells k 0)) (let e : i + (j - i) ≡ j = omega arith in e) (forward (j - i) i (omega arith))
+  between i j le lt = subst (λ k. Reaches R (get_or cells i 0) (get_or cells k 0)) (let e : i + (j - i) ≡ j = omega arith in e)
+      (forward (j - i) i (omega arith))
 
   cycle_reaches : (i j : ℕ) → i < length cells → j < length cells → Reaches R (get_or cells i 0) (get_or cells j 0)
   cycle_reaches i j li lj = elim (cases_lt j i) [
@@ -152,9 +157,11 @@ next_reaches R part_of next x y s =
     cell k lt = ((some.2 (get_or some.0 k 0)).0 (Contains-get_or some.0 k 0 lt)).0
 
     on : (k : ℕ) → k + 1 < length some.0 → R (get_or some.0 k 0) (get_or some.0 (k + 1) 0)
-    on k lt = next _ _ (next_listed part_of (get_or some.0 k 0) some.0 some.1 (part k (omega arith)) (cell k (omega arith)) (get_or some.0 (k + 1) 0) (omega arith) (k, omega arith, refl, inl (lt, refl)))
+    on k lt = next _ _ (next_listed part_of (get_or some.0 k 0) some.0 some.1 (part k (omega arith)) (cell k (omega arith)) (get_or some.0 (k + 1) 0)
+        (omega arith) (k, omega arith, refl, inl (lt, refl)))
 
     round : 1 < length some.0 → R (get_or some.0 (length some.0 - 1) 0) (get_or some.0 0 0)
     round more =
         let k : ℕ = length some.0 - 1 in
-        next _ _ (next_listed part_of (get_or some.0 k 0) some.0 some.1 (part k (omega arith)) (cell k (omega arith)) (get_or some.0 0 0) more (k, omega arith, refl, inr (omega arith, refl)))
+        next _ _ (next_listed part_of (get_or some.0 k 0) some.0 some.1 (part k (omega arith)) (cell k (omega arith)) (get_or some.0 0 0) more
+        (k, omega arith, refl, inr (omega arith, refl)))

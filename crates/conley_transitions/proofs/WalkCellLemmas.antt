@@ -3,7 +3,7 @@ use Rattle.std.proofs.Common.{◌≡◌, ◌⊎◌, inl, inr, ℕ, List, [], ◌
 use Rattle.std.specs.Prelude.{Contains}
 use Rattle.std.proofs.lemmas.List.Elements.{Contains-push_cases, Contains-append_cases, Contains-append_left, Contains-append_right}
 use Rattle.conley_walk.specs.Walk.{Walk, Reaches}
-use Rattle.conley_walk.proofs.ContainsLemmas.{Contains-first, Contains-rest, Contains-one, Contains-cases}
+use Rattle.conley_lists.proofs.ContainsLemmas.{Contains-first, Contains-rest, Contains-one, Contains-cases}
 use Rattle.conley_walk.proofs.WalkLemmas.{reaches_itself, reaches_on, reaches_by_step}
 
 -- the first cell of a walk reaches each of its cells, and each reaches the last

@@ -1,11 +1,11 @@
 -- The recurrence classes as lists.
 --     AreRecurrenceClasses faces part_of classes    each class is a list of cells, ascending, and the lists stand in the order of their least cells
 -- After Mrozek and Wanner; the wording is this project's own.
-use Rattle.std.specs.Prelude.{◌≡◌, ◌↔◌, ◌<◌, ℕ, List, Contains, length, slice_index}
+use Rattle.std.specs.Prelude.{◌≡◌, ◌↔◌, ◌<◌, ℕ, List, Contains, length}
 use Rattle.std.specs.List.Sorted.{IsStrictlyIncreasing}
+use Rattle.conley_walk.specs.Walk.{AreRecurrent}
 use Rattle.conley_transitions.specs.Step.{Step}
-use Rattle.conley_transitions.specs.Field.{AreRecurrent}
-use Rattle.conley_transitions.specs.Morse.{set_at, IsAt}
+use Rattle.conley_transitions.specs.Morse.{set_at, IsAt, StandInOrder}
 
 pub record AreRecurrenceClasses (faces : List (List ℕ)) (part_of : List ℕ) (classes : List (List ℕ)) : Type 0 where
   pub non_empty : (k : ℕ) → k < length classes → 0 < length (set_at classes k)
@@ -15,5 +15,4 @@ pub record AreRecurrenceClasses (faces : List (List ℕ)) (part_of : List ℕ) (
   -- a class has the cells that a cell of it reaches and is reached from
   pub same : (k x y : ℕ) → Contains (set_at classes k) x → Contains (set_at classes k) y ↔ AreRecurrent (Step faces part_of) x y
   pub ascending : (k : ℕ) → IsStrictlyIncreasing (set_at classes k)
-  -- the first cell of an ascending list is its least
-  pub in_order : (j k : ℕ) → j < k → k < length classes → slice_index (set_at classes j) 0 < slice_index (set_at classes k) 0
+  pub in_order : StandInOrder classes

@@ -1,14 +1,8 @@
 -- A test of isolation: unions of parts without a gap.
---     IsUnionOfParts field set           with a cell the set has all cells of its part
---     HasIsolatingSet field set          some closed set isolates the set
+--     IsUnionOfParts flow set           with a cell the set has all cells of its part
 use Rattle.std.specs.Prelude.{ℕ, List, Contains}
-use Rattle.conley_transitions.specs.Field.{Field, ShareAPart}
-use Rattle.conley_transitions.specs.Lasso.{Isolates}
+use Rattle.conley_transitions.specs.Flow.{Flow, ShareAPart}
 
 -- with a cell the set has all cells of its part
-abbrev pub IsUnionOfParts : Field → List ℕ → Type 0
-IsUnionOfParts field set = (x y : ℕ) → Contains set x → ShareAPart field x y → Contains set y
-
--- some closed set isolates the set
-abbrev pub HasIsolatingSet : Field → List ℕ → Type 0
-HasIsolatingSet field set = (closed : List ℕ) × Isolates field closed set
+abbrev pub IsUnionOfParts : Flow → List ℕ → Type 0
+IsUnionOfParts flow set = (x y : ℕ) → Contains set x → ShareAPart flow x y → Contains set y

@@ -1,6 +1,6 @@
 pub mod Step
 pub mod Making
-pub mod Field
+pub mod Flow
 pub mod Lasso
 pub mod Morse
 pub mod Classes

@@ -4,7 +4,7 @@
 --     HasTransitions faces part_of heads  the steps of the digraph lead to the cells directly under each cell, and to the next of its part
 -- After Mrozek and Wanner; the wording is this project's own.
 use Rattle.std.specs.Prelude.{◌≡◌, ◌⊎◌, ◌↔◌, ◌<◌, ◌≤◌, ℕ, List, length}
-use Rattle.conley_walk.specs.Lists.{ListedStep}
+use Rattle.conley_lists.specs.Lists.{ListedStep}
 use Rattle.conley_faces.specs.Face.{IsFace}
 use Rattle.conley_mvf.specs.Partition.{ShareAPart}
 

@@ -3,7 +3,7 @@
 ghost use Rattle.std.specs.Prelude.{◌≡◌, ◌+◌, ◌<◌, ◌≤◌, ◌↔◌, ℕ, Contains, IfOk, length, slice_index};
 ghost use Rattle.std.specs.List.Sorted.{IsStrictlyIncreasing};
 ghost use Rattle.conley_walk.specs.Walk.{Reaches};
-ghost use Rattle.conley_walk.specs.Lists.{items_of, ListedStep};
+ghost use Rattle.conley_lists.specs.Lists.{items_of, ListedStep};
 ghost use Rattle.conley_mvf.specs.Partition.{IsMultivectorField};
 ghost use Rattle.conley_transitions.specs.Step.{Step, HasTransitions};
 ghost use Rattle.conley_transitions.specs.Making.{IsNextIn, HasHeads, HasTransitionsSoFar};
@@ -79,7 +79,7 @@ pub fn transitions(alloc: Global, faces: &Faces, partition: &Partition) -> Resul
     ensures steps { IfOk result (HasTransitions faces.now partition.now) }
     ensures reach { IfOk result (λ digraph. (x y : ℕ) → Reaches (ListedStep digraph) x y ↔ Reaches (Step faces.now partition.now) x y) }
 {
-    let _count = faces.count();
+    let _order = faces.count();
     let lists = all_heads(alloc, faces, partition)?;
     match Digraph::new(alloc, &lists) {
         Ok(digraph) => Ok(digraph),

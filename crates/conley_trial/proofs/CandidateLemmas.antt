@@ -7,11 +7,11 @@ use Rattle.std.proofs.lemmas.Bool.{eqb-true, eq-eqb, and_parts, and_from, both_w
 use Rattle.std.proofs.lemmas.List.Folds.{Any-from_list_any, list_any_at}
 use Rattle.std.proofs.lemmas.List.Elements.{All-filter, filter_passes, Contains-get_or}
 use Rattle.std.proofs.lemmas.List.Kept.{IsStrictlyIncreasing-filter}
-use Rattle.conley_walk.specs.Lists.{ListedStep, IsMarked}
-use Rattle.conley_walk.proofs.AscendingLemmas.{same_numbers}
-use Rattle.conley_walk.proofs.ListLemmas.{step_begins}
+use Rattle.conley_lists.specs.Lists.{ListedStep, IsMarked}
+use Rattle.conley_lists.proofs.AscendingLemmas.{same_numbers}
+use Rattle.conley_lists.proofs.ListLemmas.{step_begins}
 use Rattle.conley_faces.specs.Closures.{IsInListOf, IsPart}
-use Rattle.conley_walk.proofs.ContainsLemmas.{Contains-first, Contains-rest, Contains-cases}
+use Rattle.conley_lists.proofs.ContainsLemmas.{Contains-first, Contains-rest, Contains-cases}
 use Rattle.conley_lefschetz.specs.Complex.{Layout}
 use Rattle.conley_trial.specs.Pairs.{is_over, is_two_over, is_in_a_pair, looks_two_up, is_candidate, candidates}
 use Rattle.conley_trial.specs.Making.{AreCofaces}
@@ -83,7 +83,11 @@ module _ (c : Layout) (pairs : List (List ℕ)) (r x : ℕ) where
       (λ in_found.
           let h = (part.same y).0 in_found in
           let is = (are y).0 h.0 in
-          (candidates_same y).1 (within y is, and_from (cond (looks_two_up c r x) (is_two_over c x y) (is_over c x y)) (not (is_in_a_pair pairs y)) (test y ∙ is) (free y h.1))),
+          (candidates_same y).1 (
+            within y is,
+            and_from (cond (looks_two_up c r x) (is_two_over c x y) (is_over c x y)) (not (is_in_a_pair pairs y))
+                (test y ∙ is) (free y h.1),
+          )),
       (λ in_candidates.
           let h = (candidates_same y).0 in_candidates in
           let both = and_parts (cond (looks_two_up c r x) (is_two_over c x y) (is_over c x y)) (not (is_in_a_pair pairs y)) h.1 in

@@ -7,7 +7,7 @@ use Rattle.std.proofs.Common.{inl, inr, length-append}
 use Rattle.std.proofs.lemmas.List.{flat_map_more}
 use Rattle.std.proofs.lemmas.List.Elements.{Contains-append_left, Contains-append_right}
 use Rattle.std.proofs.lemmas.List.FromFn.{length-range_with_len, get_or-range_with_len, length-map-range_with_len}
-use Rattle.conley_walk.proofs.ContainsLemmas.{Contains-cases}
+use Rattle.conley_lists.proofs.ContainsLemmas.{Contains-cases}
 
 pub range_has : (a n y : ℕ) → a ≤ y → y < a + n → Contains (range_with_len a n) y
 range_has a n y low high =

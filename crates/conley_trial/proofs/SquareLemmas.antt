@@ -62,7 +62,11 @@ abbrev grid : ℕ → List (List ℕ)
 grid k = flat_map (λ a. map (λ b. a ∷ b ∷ []) (range_with_len 2000000 (2 * k + 1))) (range_with_len 2000000 (2 * k + 1))
 
 few_in_grid : (k : ℕ) → k ≤ 60 → length (grid k) ≤ 14641
-few_in_grid k le = let small : 2 * k + 1 ≤ 121 = omega arith in omega (arith, length-rows (λ (a b : ℕ). a ∷ b ∷ []) 2000000 (2 * k + 1) 2000000 (2 * k + 1), mul-le-mul small small)
+few_in_grid k le = let small : 2 * k + 1 ≤ 121 = omega arith in omega (
+  arith,
+  length-rows (λ (a b : ℕ). a ∷ b ∷ []) 2000000 (2 * k + 1) 2000000 (2 * k + 1),
+  mul-le-mul small small,
+)
 
 end_inside : (k i a : ℕ) → i < k → IsWithin (code_of (pos i, pos (i + 1))) a → (2000000 ≤ a) × (a < 2000000 + (2 * k + 1))
 end_inside k i a less within = by (omega (arith, ints)) within
@@ -76,7 +80,12 @@ row_has : (k a b : ℕ) → 2000000 ≤ b → b < 2000000 + (2 * k + 1) → Cont
 row_has k a b low high = mapped (range_with_len 2000000 (2 * k + 1)) (range_has 2000000 (2 * k + 1) b low high)
   where
     mapped : (xs : List ℕ) → Contains xs b → Contains (map (λ b. a ∷ b ∷ []) xs) (a ∷ b ∷ [])
-    mapped xs c = (c.0, omega (arith, c.1, length-map xs (λ (b : ℕ). a ∷ b ∷ [])), get_or-map (λ (b : ℕ). a ∷ b ∷ []) xs c.0 b (a ∷ b ∷ []) c.1 ∙ ap (λ q. a ∷ q ∷ []) c.2)
+    mapped xs c = (
+      c.0,
+      omega (arith, c.1, length-map xs (λ (b : ℕ). a ∷ b ∷ [])),
+      get_or-map (λ (b : ℕ). a ∷ b ∷ []) xs c.0 b (a ∷ b ∷ []) c.1
+          ∙ ap (λ q. a ∷ q ∷ []) c.2,
+    )
 
 cube_in_grid : (k i j : ℕ) (s : List ℕ) → i < k → j < k → AllZip IsWithin (codes_of (unit_square i j)) s → Contains (grid k) s
 cube_in_grid k i j [] less less' zip = absurd zip
@@ -95,7 +104,14 @@ few_in_complex k c le complex =
     let cube = (complex.are.all s).0 at in
     let square = square_at k cube.0 cube.1 in
     cube_in_grid k square.0 square.1 s square.2 square.3 (subst (λ (q : List (ℤ × ℤ)). AllZip IsWithin (codes_of q) s) square.4 cube.2)) in
-    omega (arith, ap length complex.dims_are, length-map complex.cells dim_of, most_cells (grid k) complex.cells (ordered_apart rule_of_cubes complex.cells complex.are.ordered) among, few_in_grid k le)
+    omega (
+      arith,
+      ap length complex.dims_are,
+      length-map complex.cells dim_of,
+      most_cells (grid k) complex.cells
+          (ordered_apart rule_of_cubes complex.cells complex.are.ordered) among,
+      few_in_grid k le,
+    )
 
 few_cells : (k : ℕ) → k ≤ 60 → ¬ AreMore (unit_squares k) 20000
 few_cells k le more =

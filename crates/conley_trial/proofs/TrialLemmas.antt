@@ -2,7 +2,7 @@
 use Rattle.std.proofs.Common.{◌≡◌, ◌<◌, ◌≤◌, ◌^◌, ℕ, List, length, sym, subst, arith}
 use Rattle.conley_field.specs.Arithmetic.{Arithmetic}
 use Rattle.conley_field.specs.Prime.{residues}
-use Rattle.conley_walk.specs.Lists.{entries_of}
+use Rattle.conley_lists.specs.Lists.{entries_of}
 use Rattle.conley_lefschetz.specs.Complex.{Layout, IsLayout}
 use Rattle.conley_mvf.specs.Fault.{IsUnknown}
 use Rattle.conley_cubical.specs.Cubical.{IsCubicalComplex}
@@ -11,7 +11,8 @@ use Rattle.conley_trial.specs.Squares.{unit_squares}
 use Rattle.conley_trial.proofs.FairLemmas.{AreFair, listed_fair}
 use Rattle.conley_trial.proofs.SquareLemmas.{few_in_complex}
 
-module _ (F : Arithmetic) (k : ℕ) (c : Layout) (laws : IsLayout F c) (le : k ≤ 60) (complex : IsCubicalComplex (residues 2) (unit_squares k) c) (pairs : List (List ℕ)) (are : pairs ≡ pairs_of k c) where
+module _ (F : Arithmetic) (k : ℕ) (c : Layout) (laws : IsLayout F c) (le : k ≤ 60) (complex : IsCubicalComplex (residues 2) (unit_squares k) c)
+    (pairs : List (List ℕ)) (are : pairs ≡ pairs_of k c) where
   fair : AreFair (length c.dims) (length c.dims) pairs
   fair = subst (AreFair (length c.dims) (length c.dims)) (sym are) (listed_fair c k (length c.dims) (omega arith))
 

@@ -1,5 +1,5 @@
 -- The problem that is made for a number k: a field of vectors over the k·k unit squares, drawn at random.
---     IsTrialProblem k problem    scalars are residues modulo 2, the complex is that of the squares, the parts are the hull of the pairs, and no sets are named
+--     IsTrialProblem k problem    scalars modulo 2, the complex of the squares, the hull of the pairs, and no named sets
 --     TrialProblemIsOne           at most one sound problem is made for a number
 -- The wording is this project's own.
 use Rattle.std.specs.Prelude.{◌≡◌, ℕ, []}

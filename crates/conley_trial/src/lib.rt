@@ -6,8 +6,8 @@
 mod cofaces;
 mod draw;
 mod laws;
-mod listing;
 mod numbers;
+mod pairing;
 mod pairs;
 mod squares;
 mod summary;

@@ -1,7 +1,7 @@
 //! The numbers of a summary.
 
 ghost use Rattle.std.specs.Prelude.{◌≡◌, ◌<◌, ◌^◌, length, slice_index};
-ghost use Rattle.conley_walk.specs.Lists.{items_of};
+ghost use Rattle.conley_lists.specs.Lists.{items_of};
 ghost use Rattle.conley_chains.specs.Matrix.{column_count};
 ghost use Rattle.conley_trial.specs.Numbers as spec;
 

@@ -2,7 +2,7 @@
 
 ghost use Rattle.std.specs.Prelude.{◌≡◌, ◌<◌, ◌≤◌, ◌++◌, OnOk, IfOk, map, pos};
 ghost use Rattle.std.specs.List.{flat_map, range_with_len};
-ghost use Rattle.conley_walk.specs.Lists.{items_of};
+ghost use Rattle.conley_lists.specs.Lists.{items_of};
 ghost use Rattle.conley_field.specs.AnyField.{arithmetic_of};
 ghost use Rattle.conley_field.specs.Prime.{residues};
 ghost use Rattle.conley_cubical.specs.Cubical.{IsCubicalComplex};

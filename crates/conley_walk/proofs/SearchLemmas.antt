@@ -7,10 +7,10 @@ use Rattle.std.proofs.lemmas.List.Sums.{sum_by-set}
 use Rattle.std.proofs.lemmas.List.{get_or-replicate, get_or_past}
 use Rattle.std.proofs.lemmas.Bool.{cases_eq, cases_lt, false≢true}
 use Rattle.conley_walk.specs.Walk.{Reaches}
-use Rattle.conley_walk.specs.Lists.{IsMarked, ListedStep}
+use Rattle.conley_lists.specs.Lists.{IsMarked, ListedStep}
 use Rattle.conley_walk.specs.Search.{MarksAll, Searched, ReachesFrom}
 use Rattle.conley_walk.proofs.WalkLemmas.{reaches_itself, reaches_on, reaches_by_step, reaches_least}
-use Rattle.conley_walk.proofs.ListLemmas.{Contains-none}
+use Rattle.conley_lists.proofs.ListLemmas.{Contains-none}
 
 -- nothing is marked yet
 pub marks_none : (seen : List Bool) (waiting : List ℕ) → MarksAll [] seen waiting seen waiting
@@ -45,7 +45,8 @@ IsMarked-set_cases row h y m = elim (cases_eq y h) [
   | inr ne ↦ inr (sym (get_or-set_other row h y true false ne) ∙ m)
 ]
 
-module _ (heads : List ℕ) (seen : List Bool) (waiting : List ℕ) (seen' : List Bool) (waiting' : List ℕ) (h : ℕ) (so_far : MarksAll heads seen waiting seen' waiting') where
+module _ (heads : List ℕ) (seen : List Bool) (waiting : List ℕ) (seen' : List Bool) (waiting' : List ℕ) (h : ℕ)
+    (so_far : MarksAll heads seen waiting seen' waiting') where
   -- the next head has its mark
   pub marks_old : IsMarked seen' h → MarksAll (heads ++ h ∷ []) seen waiting seen' waiting'
   marks_old m = record {
@@ -67,7 +68,11 @@ module _ (heads : List ℕ) (seen : List Bool) (waiting : List ℕ) (seen' : Lis
       | inr e ↦ subst (IsMarked (set seen' h true)) e (get_or-set_same seen' h true false lt)
     ];
     only_heads = λ y m. elim (IsMarked-set_cases seen' h y m) [
-      | inl e ↦ inr (subst (Contains (heads ++ h ∷ [])) (sym e) (Contains-push heads h), subst (Contains (waiting' ++ h ∷ [])) (sym e) (Contains-push waiting' h))
+      | inl e ↦ inr (
+        subst (Contains (heads ++ h ∷ [])) (sym e) (Contains-push heads h),
+        subst (Contains (waiting' ++ h ∷ [])) (sym e)
+            (Contains-push waiting' h),
+      )
       | inr o ↦ elim (so_far.only_heads y o) [
         | inl o' ↦ inl o'
         | inr p ↦ inr (Contains-append_left heads (h ∷ []) y p.0, Contains-append_left waiting' (h ∷ []) y p.1)
@@ -95,7 +100,8 @@ unmarked_row n y = elim (cases_lt y n) [
 ]
 
 -- the starts have been marked, and wait
-pub search_begins : (lists : List (List ℕ)) (starts : List ℕ) (seen : List Bool) (waiting : List ℕ) → MarksAll starts (replicate (length lists) false) [] seen waiting → Searched lists starts seen waiting
+pub search_begins : (lists : List (List ℕ)) (starts : List ℕ) (seen : List Bool) (waiting : List ℕ)
+    → MarksAll starts (replicate (length lists) false) [] seen waiting → Searched lists starts seen waiting
 search_begins lists starts seen waiting m = record {
   width = m.width ∙ length-replicate (length lists) false;
   begun = m.heads_marked;
@@ -134,8 +140,13 @@ search_goes_on lists starts seen rest x seen' rest' s m = record {
     x_marked = s.waits x (Contains-push rest x)
 
 -- with none that waits, the marks are what is reached
-pub search_ends : (lists : List (List ℕ)) (starts : List ℕ) (seen : List Bool) → Searched lists starts seen [] → (y : ℕ) → IsMarked seen y ↔ ReachesFrom lists starts y
-search_ends lists starts seen s y = (s.reached y, λ r. reaches_least (IsMarked seen) (λ a b step m. s.done a b m (λ c. Contains-none a c) step) r.1.1 (s.begun r.0 r.1.0))
+pub search_ends : (lists : List (List ℕ)) (starts : List ℕ) (seen : List Bool) → Searched lists starts seen [] → (y : ℕ) → IsMarked seen y
+    ↔ ReachesFrom lists starts y
+search_ends lists starts seen s y = (
+  s.reached y,
+  λ r. reaches_least (IsMarked seen) (λ a b step m. s.done a b m (λ c. Contains-none a c) step) r.1.1
+      (s.begun r.0 r.1.0),
+)
 
 -- what is reached from one start alone
 pub reaches_from_one : (lists : List (List ℕ)) (start y : ℕ) → ReachesFrom lists (start ∷ []) y ↔ Reaches (ListedStep lists) start y

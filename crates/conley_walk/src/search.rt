@@ -2,7 +2,7 @@
 
 ghost use Rattle.std.specs.Prelude.{◌≡◌, ◌<◌, ◌↔◌, ℕ, [], ◌∷◌, All, OnOk, IfOk, length, vec_len};
 ghost use Rattle.conley_walk.specs.Walk.{Reaches};
-ghost use Rattle.conley_walk.specs.Lists.{items_of, ListedStep, IsDigraph, IsMarked};
+ghost use Rattle.conley_lists.specs.Lists.{items_of, ListedStep, IsDigraph, IsMarked};
 ghost use Rattle.conley_walk.specs.Search.{MarksAll, ReachesFrom};
 
 use std::alloc::{AllocError, Global};

@@ -1,7 +1,7 @@
 use Rattle.std.proofs.Common.{◌≡◌, ◌<◌, length, get_or, ap, ◌∙◌, arith}
 use Rattle.std.specs.Prelude.{slice_index}
 use Rattle.std.proofs.lemmas.List.{get_or_default}
-use Rattle.conley_walk.specs.Lists.{items_of}
+use Rattle.conley_lists.specs.Lists.{items_of}
 use Rattle.conley_analysis.proofs.NamingLemmas.{none_named, named_more, number_at}
 use Rattle.conley_analysis.proofs.naming.named.Goals as goal
 
@@ -15,8 +15,10 @@ loop-g-preserved r c =
     let at = c.requires.somewhere c.loop-g.g within in
     let number = c.in_ok-number.number.items in
     let base : c.base-base.result ≡ get_or s.base c.loop-g.g 0 = c.base-base.ensures.base in
-    let in_number : c.base-base.result < length number = (let cell = c.requires.bases c.loop-g.g 0 within in omega (arith, cell, base, c.in_ok-number.ensures.width)) in
-    let read : c.index.result.now ≡ slice_index number (get_or s.base c.loop-g.g 0) = c.index.ensures ∙ get_or_default number c.base-base.result c.index.result.now 0 in_number ∙ ap (λ x. get_or number x 0) base in
+    let in_number : c.base-base.result < length number = (let cell = c.requires.bases c.loop-g.g 0 within in
+    omega (arith, cell, base, c.in_ok-number.ensures.width)) in
+    let read : c.index.result.now ≡ slice_index number (get_or s.base c.loop-g.g 0) = c.index.ensures
+    ∙ get_or_default number c.base-base.result c.index.result.now 0 in_number ∙ ap (λ x. get_or number x 0) base in
     rw c.in_ok-push.ensures.items (named_more (items_of c.args.sets.now) s.base s.dims c.loop-g.g c.loop-g.names.items _ c.loop-g.invariant
     (number_at (items_of c.args.sets.now) number (get_or s.base c.loop-g.g 0) c.index.result.now at.0 c.in_ok-number.ensures.numbers at.1 read) c.dim.ensures)
 

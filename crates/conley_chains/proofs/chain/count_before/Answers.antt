@@ -6,7 +6,8 @@ use Rattle.std.specs.Prelude.{true, false}
 use Rattle.conley_chains.proofs.ChainLemmas.{places-rise}
 use Rattle.conley_chains.proofs.chain.count_before.Goals as goal
 
-parted : (c : goal.After-partition_point) → IsPartitionPoint (λ (y : ℕ × ℕ). nat_lt y.0 c.args.place ≡ true) (λ y. nat_lt y.0 c.args.place ≡ false) c.args.entries.now c.partition_point.result
+parted : (c : goal.After-partition_point) → IsPartitionPoint (λ (y : ℕ × ℕ). nat_lt y.0 c.args.place ≡ true) (λ y. nat_lt y.0 c.args.place ≡ false)
+    c.args.entries.now c.partition_point.result
 parted c =
     IsPartitionPoint-from_clause (λ (y : ℕ × ℕ). nat_lt y.0 c.args.place) c.args.entries.now c.partition_point.result c.partition_point.ensures.partitioned
     (IsPartitionedBy-ltb (λ (y : ℕ × ℕ). y.0) c.args.entries.now c.args.place (places-rise c.args.entries.now c.requires)) (λ a r q k. search rules)

@@ -7,4 +7,5 @@ pub returns-clause-beyond : goal.returns-clause-beyond
 returns-clause-beyond c is =
     let last = c.index-others-count.result in
     let below : last.0 < c.next_place-first.result = ltb-true _ _ is in
-    last_place-most c.args.others.now last _ c.requires (length c.args.others.now - 1) (omega arith) c.index-others-count.is (subst (λ (n : ℕ). last.0 < n) c.next_place-first.ensures.place below)
+    last_place-most c.args.others.now last _ c.requires (length c.args.others.now - 1) (omega arith) c.index-others-count.is
+    (subst (λ (n : ℕ). last.0 < n) c.next_place-first.ensures.place below)

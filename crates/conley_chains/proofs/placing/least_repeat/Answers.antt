@@ -6,7 +6,8 @@ pub loop-k-preserved : goal.loop-k-preserved
 loop-k-preserved c =
     elim c.if-before-here.branch [
       | then-before-here+then-before-here-2 w ↦
-          rw (w.least-is, w.lesser.ensures) (least_more c.args.placed.now c.loop-k.k c.loop-k.least c.loop-k.invariant c.loop-k.auto.k c.loop-k-test.true (w.if-before-here.true, w.if-before-here-2.true))
+          rw (w.least-is, w.lesser.ensures) (least_more c.args.placed.now c.loop-k.k c.loop-k.least c.loop-k.invariant c.loop-k.auto.k c.loop-k-test.true
+          (w.if-before-here.true, w.if-before-here-2.true))
       | else-before-here w ↦
           rw w.least-is (least_apart c.args.placed.now c.loop-k.k c.loop-k.least c.loop-k.invariant c.loop-k.auto.k
           (elim w.else-before-here.branch [

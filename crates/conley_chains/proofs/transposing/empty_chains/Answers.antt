@@ -15,4 +15,8 @@ one_more xs d so_far k = elim (cases_lt k (length xs)) [
 ]
 
 pub loop-count-preserved : goal.loop-count-preserved
-loop-count-preserved c = rw c.in_ok-push.ensures.items (rw c.in_ok-with_room.ensures (length-append c.loop-count.chains.items ([] ∷ []) ∙ ap (λ (n : ℕ). n + 1) c.loop-count.invariant.0, one_more c.loop-count.chains.items [] c.loop-count.invariant.1))
+loop-count-preserved c = rw c.in_ok-push.ensures.items (rw c.in_ok-with_room.ensures (
+  length-append c.loop-count.chains.items ([] ∷ [])
+      ∙ ap (λ (n : ℕ). n + 1) c.loop-count.invariant.0,
+  one_more c.loop-count.chains.items [] c.loop-count.invariant.1,
+))

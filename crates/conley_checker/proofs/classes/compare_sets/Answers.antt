@@ -12,9 +12,11 @@ returns-then-place-x g c =
     let x = c.loop-x.x in
     let cell : x < cell_count P = omega (arith, c.loop-x-test.true, c.requires.classes.count) in
     let want_is : c.index-want.result.now ≡ wanted_place P C x =
-    want_read P c.requires.given.problem C c.requires.given.fits c.args.class_of.now c.requires.classes c.in_ok-leasts.leasts.items c.deref.result.now c.in_ok-wanted.wanted.items c.in_ok-leasts.ensures c.deref.ensures.value c.in_ok-wanted.ensures.width c.in_ok-wanted.ensures.wanted
+    want_read P c.requires.given.problem C c.requires.given.fits c.args.class_of.now c.requires.classes c.in_ok-leasts.leasts.items c.deref.result.now
+    c.in_ok-wanted.wanted.items c.in_ok-leasts.ensures c.deref.ensures.value c.in_ok-wanted.ensures.width c.in_ok-wanted.ensures.wanted
     x c.index-want.result.now cell c.index-want.ensures in
-    cell_differs P C x (slice_index c.args.place.now x) c.index-want.result.now cell (c.requires.places.places x cell) want_is c.if-place-x.true c.loop-x.invariant
+    cell_differs P C x (slice_index c.args.place.now x) c.index-want.result.now cell (c.requires.places.places x cell) want_is c.if-place-x.true
+    c.loop-x.invariant
 
 pub loop-x-preserved : goal.loop-x-preserved
 loop-x-preserved g c =
@@ -23,7 +25,8 @@ loop-x-preserved g c =
     let x = c.loop-x.x in
     let cell : x < cell_count P = omega (arith, c.loop-x-test.true, c.requires.classes.count) in
     let want_is : c.index-want.result.now ≡ wanted_place P C x =
-    want_read P c.requires.given.problem C c.requires.given.fits c.args.class_of.now c.requires.classes c.in_ok-leasts.leasts.items c.deref.result.now c.in_ok-wanted.wanted.items c.in_ok-leasts.ensures c.deref.ensures.value c.in_ok-wanted.ensures.width c.in_ok-wanted.ensures.wanted
+    want_read P c.requires.given.problem C c.requires.given.fits c.args.class_of.now c.requires.classes c.in_ok-leasts.leasts.items c.deref.result.now
+    c.in_ok-wanted.wanted.items c.in_ok-leasts.ensures c.deref.ensures.value c.in_ok-wanted.ensures.width c.in_ok-wanted.ensures.wanted
     x c.index-want.result.now cell c.index-want.ensures in
     below_more _ _ c.loop-x.invariant (sym (c.requires.places.places x cell) ∙ c.if-place-x.false ∙ want_is)
 

@@ -1,8 +1,8 @@
 use Rattle.std.proofs.Common.{◌≡◌, ◌<◌, ◌+◌, ◌==◌, ◌&&◌, ℕ, suc, arith, ◌∙◌, ap, subst, get_or}
 use Rattle.std.proofs.lemmas.Grind.{common_steps}
 use Rattle.std.proofs.lemmas.List.{get_or_default}
-use Rattle.conley_walk.specs.Lists.{items_of}
-use Rattle.conley_walk.proofs.ListLemmas.{length-items_of}
+use Rattle.conley_lists.specs.Lists.{items_of}
+use Rattle.conley_lists.proofs.ListLemmas.{length-items_of}
 use Rattle.conley_certificate_file.specs.CertificateMeaning.{meaning_of}
 use Rattle.conley_certificate.specs.Certificate.{generator_count, set_count, set_of, dim_of}
 use Rattle.conley_certificate.proofs.TestLemmas.{count_below-most}
@@ -34,7 +34,8 @@ loop-g-preserved c =
     elim c.if-e-sets.branch [
       | then-e-sets+then-e-levels w ↦
           rw w.counts-is (subst (λ (m : ℕ). AreCounts C c.args.levels m (items_of w.count_one.new.counts.items)) next
-          (counted_more C c.args.levels g (items_of c.loop-g.counts.items) c.loop-g.invariant (items_of w.count_one.new.counts.items) (omega (arith, w.if-e-sets.true, set_is, sets)) (omega (arith, w.if-e-levels.true, dim_is))
+          (counted_more C c.args.levels g (items_of c.loop-g.counts.items) c.loop-g.invariant (items_of w.count_one.new.counts.items)
+          (omega (arith, w.if-e-sets.true, set_is, sets)) (omega (arith, w.if-e-levels.true, dim_is))
           (rw (set_is, dim_is) at w.count_one.ensures)))
       | else-e-sets w ↦
           rw w.counts-is (subst (λ (m : ℕ). AreCounts C c.args.levels m (items_of c.loop-g.counts.items)) next

@@ -14,6 +14,7 @@ returns g c =
     let ok = c.requires.given.problem in
     let fits = c.requires.given.fits in
     record {
-      have = λ row. (rw c.field-field.ensures.field at c.in_ok-have.ensures.product) row ∙ ap (λ (n : ℕ). product_of F n (entry C.matrix) (entry C.matrix) row c.args.column) fits.matrix.columns;
+      have = λ row. (rw c.field-field.ensures.field at c.in_ok-have.ensures.product) row ∙ ap (λ (n : ℕ). product_of F n (entry C.matrix) (entry C.matrix) row
+          c.args.column) fits.matrix.columns;
       want = λ row. ap (λ (es : List (ℕ × ℕ)). coefficient es row) c.new-want.ensures;
     }

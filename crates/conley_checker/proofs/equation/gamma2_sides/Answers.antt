@@ -19,15 +19,19 @@ returns g c =
     let first = c.in_ok-first.first in
     let second = c.in_ok-second.second in
     let through_is : (row : ℕ) → coefficient c.in_ok-through.through row ≡ product_of F (cell_count P) (entry C.psi) (entry C.phi) row c.args.column =
-    λ row. (rw c.field-field.ensures.field at c.in_ok-through.ensures.product) row ∙ ap (λ (n : ℕ). product_of F n (entry C.psi) (entry C.phi) row c.args.column) (psi_fits P ok C fits).columns in
+    λ row. (rw c.field-field.ensures.field at c.in_ok-through.ensures.product) row ∙ ap (λ (n : ℕ). product_of F n (entry C.psi) (entry C.phi) row
+    c.args.column) (psi_fits P ok C fits).columns in
     let first_is : (row : ℕ) → coefficient first row ≡ product_of F (generator_count C) (entry C.matrix) (entry C.gamma2) row c.args.column =
-    λ row. (rw c.field-field.ensures.field at c.in_ok-first.ensures.product) row ∙ ap (λ (n : ℕ). product_of F n (entry C.matrix) (entry C.gamma2) row c.args.column) fits.matrix.columns in
+    λ row. (rw c.field-field.ensures.field at c.in_ok-first.ensures.product) row ∙ ap (λ (n : ℕ). product_of F n (entry C.matrix) (entry C.gamma2) row
+    c.args.column) fits.matrix.columns in
     let second_is : (row : ℕ) → coefficient second row ≡ product_of F (generator_count C) (entry C.gamma2) (entry C.matrix) row c.args.column =
-    λ row. (rw c.field-field.ensures.field at c.in_ok-second.ensures.product) row ∙ ap (λ (n : ℕ). product_of F n (entry C.gamma2) (entry C.matrix) row c.args.column) fits.gamma2.columns in
+    λ row. (rw c.field-field.ensures.field at c.in_ok-second.ensures.product) row ∙ ap (λ (n : ℕ). product_of F n (entry C.gamma2) (entry C.matrix) row
+    c.args.column) fits.gamma2.columns in
     record {
       have = λ row. (rw c.field-field.ensures.field at c.in_ok-have.ensures) row
           ∙ ap (λ (x : ℕ). F.add x (F.neg (coefficient identity row))) (through_is row)
-          ∙ ap (λ (x : ℕ). F.add (product_of F (cell_count P) (entry C.psi) (entry C.phi) row c.args.column) (F.neg x)) (c.in_ok-identity.ensures.entries (generator_count C) row c.requires.within);
+          ∙ ap (λ (x : ℕ). F.add (product_of F (cell_count P) (entry C.psi) (entry C.phi) row c.args.column) (F.neg x))
+          (c.in_ok-identity.ensures.entries (generator_count C) row c.requires.within);
       want = λ row. (rw c.field-field.ensures.field at c.in_ok-want.ensures) row
           ∙ ap (λ (x : ℕ). F.add x (coefficient second row)) (first_is row)
           ∙ ap (F.add (product_of F (generator_count C) (entry C.matrix) (entry C.gamma2) row c.args.column)) (second_is row);

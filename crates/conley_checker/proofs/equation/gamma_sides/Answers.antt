@@ -19,11 +19,13 @@ returns g c =
     let first = c.in_ok-first.first in
     let second = c.in_ok-second.second in
     let through_is : (row : ℕ) → coefficient through row ≡ product_of F (generator_count C) (entry C.phi) (entry C.psi) row c.args.column =
-    λ row. (rw c.field-field.ensures.field at c.in_ok-through.ensures.product) row ∙ ap (λ (n : ℕ). product_of F n (entry C.phi) (entry C.psi) row c.args.column) (phi_fits P ok C fits).columns in
+    λ row. (rw c.field-field.ensures.field at c.in_ok-through.ensures.product) row ∙ ap (λ (n : ℕ). product_of F n (entry C.phi) (entry C.psi) row
+    c.args.column) (phi_fits P ok C fits).columns in
     let first_is : (row : ℕ) → coefficient first row ≡ product_of F (cell_count P) (entry P.complex.boundary) (entry C.gamma) row c.args.column =
     λ row. (rw (c.field-field.ensures.field, c.boundary-boundary.ensures.boundary) at c.in_ok-first.ensures.product) row in
     let second_is : (row : ℕ) → coefficient second row ≡ product_of F (cell_count P) (entry C.gamma) (entry P.complex.boundary) row c.args.column =
-    λ row. (rw (c.field-field.ensures.field, c.boundary-boundary.ensures.boundary) at c.in_ok-second.ensures.product) row ∙ ap (λ (n : ℕ). product_of F n (entry C.gamma) (entry P.complex.boundary) row c.args.column) (gamma_fits P ok C fits).columns in
+    λ row. (rw (c.field-field.ensures.field, c.boundary-boundary.ensures.boundary) at c.in_ok-second.ensures.product) row
+    ∙ ap (λ (n : ℕ). product_of F n (entry C.gamma) (entry P.complex.boundary) row c.args.column) (gamma_fits P ok C fits).columns in
     record {
       have = λ row. (rw c.field-field.ensures.field at c.in_ok-have.ensures) row
           ∙ ap (λ (x : ℕ). F.add x (F.neg (coefficient through row))) (c.in_ok-identity.ensures.entries (cell_count P) row c.requires.within)

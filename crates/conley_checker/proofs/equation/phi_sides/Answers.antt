@@ -15,5 +15,6 @@ returns g c =
     let fits = c.requires.given.fits in
     record {
       have = λ row. (rw (c.field-field.ensures.field, c.boundary-boundary.ensures.boundary) at c.in_ok-have.ensures.product) row;
-      want = λ row. (rw c.field-field.ensures.field at c.in_ok-want.ensures.product) row ∙ ap (λ (n : ℕ). product_of F n (entry C.phi) (entry C.matrix) row c.args.column) (phi_fits P ok C fits).columns;
+      want = λ row. (rw c.field-field.ensures.field at c.in_ok-want.ensures.product) row ∙ ap (λ (n : ℕ). product_of F n (entry C.phi) (entry C.matrix) row
+          c.args.column) (phi_fits P ok C fits).columns;
     }

@@ -14,6 +14,8 @@ returns g c =
     let ok = c.requires.given.problem in
     let fits = c.requires.given.fits in
     record {
-      have = λ row. (rw c.field-field.ensures.field at c.in_ok-have.ensures.product) row ∙ ap (λ (n : ℕ). product_of F n (entry C.matrix) (entry C.psi) row c.args.column) fits.matrix.columns;
-      want = λ row. (rw (c.field-field.ensures.field, c.boundary-boundary.ensures.boundary) at c.in_ok-want.ensures.product) row ∙ ap (λ (n : ℕ). product_of F n (entry C.psi) (entry P.complex.boundary) row c.args.column) (psi_fits P ok C fits).columns;
+      have = λ row. (rw c.field-field.ensures.field at c.in_ok-have.ensures.product) row ∙ ap (λ (n : ℕ). product_of F n (entry C.matrix) (entry C.psi) row
+          c.args.column) fits.matrix.columns;
+      want = λ row. (rw (c.field-field.ensures.field, c.boundary-boundary.ensures.boundary) at c.in_ok-want.ensures.product) row
+          ∙ ap (λ (n : ℕ). product_of F n (entry C.psi) (entry P.complex.boundary) row c.args.column) (psi_fits P ok C fits).columns;
     }

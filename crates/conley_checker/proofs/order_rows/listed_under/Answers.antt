@@ -1,8 +1,8 @@
 use Rattle.std.proofs.Common.{◌≡◌, ◌<◌, ℕ, arith, sym, ◌∙◌, subst, length}
 use Rattle.std.proofs.lemmas.Grind.{common_steps}
 use Rattle.std.proofs.lemmas.List.{get_or_default}
-use Rattle.conley_walk.specs.Lists.{items_of}
-use Rattle.conley_walk.proofs.ListLemmas.{length-items_of}
+use Rattle.conley_lists.specs.Lists.{items_of}
+use Rattle.conley_lists.proofs.ListLemmas.{length-items_of}
 use Rattle.conley_certificate.specs.Certificate.{set_count}
 use Rattle.conley_certificate_file.specs.CertificateMeaning.{meaning_of}
 use Rattle.conley_checker.specs.Rows.{AreListed}

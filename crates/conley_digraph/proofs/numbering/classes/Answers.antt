@@ -1,7 +1,7 @@
 -- classes by the order in which they were closed
 use Rattle.std.specs.Prelude.{length}
 use Rattle.std.proofs.lemmas.Result.{IfOk-weaker}
-use Rattle.conley_walk.specs.Lists.{items_of}
+use Rattle.conley_lists.specs.Lists.{items_of}
 use Rattle.conley_digraph.specs.Classes.{AreClasses}
 use Rattle.conley_digraph.specs.Numbering.{IsRenumbered}
 use Rattle.conley_digraph.proofs.NumberingLemmas.{closing_classes}

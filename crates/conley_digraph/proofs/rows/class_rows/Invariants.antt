@@ -1,5 +1,5 @@
 use Rattle.std.proofs.Common.{◌≡◌, length}
-use Rattle.conley_walk.specs.Lists.{items_of}
+use Rattle.conley_lists.specs.Lists.{items_of}
 use Rattle.conley_digraph.specs.Rows.{AreRowsSoFar}
 use Rattle.conley_digraph.proofs.rows.class_rows.Given as goal
 

@@ -1,6 +1,6 @@
 use Rattle.std.proofs.Common.{take, length}
 use Rattle.std.specs.Prelude.{slice_index}
-use Rattle.conley_walk.specs.Lists.{items_of}
+use Rattle.conley_lists.specs.Lists.{items_of}
 use Rattle.conley_digraph.specs.Rows.{IsRowSoFar, JoinsHeads}
 use Rattle.conley_digraph.proofs.rows.join_heads.Given as goal
 

@@ -1,6 +1,6 @@
 use Rattle.std.proofs.Common.{◌≡◌, ℕ, take, length}
 use Rattle.std.specs.Prelude.{Contains, slice_index}
-use Rattle.conley_walk.specs.Lists.{items_of, ListedStep}
+use Rattle.conley_lists.specs.Lists.{items_of, ListedStep}
 use Rattle.conley_order.specs.ClassRows.{word_bit}
 use Rattle.conley_digraph.specs.Rows.{IsRowSoFar}
 use Rattle.conley_digraph.proofs.rows.row_of.Given as goal

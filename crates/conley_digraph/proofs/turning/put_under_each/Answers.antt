@@ -4,4 +4,5 @@ use Rattle.conley_digraph.proofs.TurningLemmas.{put_more}
 use Rattle.conley_digraph.proofs.turning.put_under_each.Goals as goal
 
 pub loop-y-preserved : goal.loop-y-preserved
-loop-y-preserved c = rw (take_more c.args.heads.now c.loop-y.y-index 0 c.loop-y-test.true) (put_more _ _ _ _ _ _ c.loop-y.invariant c.in_ok-put_under.ensures.puts)
+loop-y-preserved c = rw (take_more c.args.heads.now c.loop-y.y-index 0 c.loop-y-test.true)
+    (put_more _ _ _ _ _ _ c.loop-y.invariant c.in_ok-put_under.ensures.puts)

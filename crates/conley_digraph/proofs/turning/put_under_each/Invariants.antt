@@ -1,5 +1,5 @@
 use Rattle.std.proofs.Common.{take}
-use Rattle.conley_walk.specs.Lists.{items_of}
+use Rattle.conley_lists.specs.Lists.{items_of}
 use Rattle.conley_digraph.specs.Turning.{PutsUnderEach}
 use Rattle.conley_digraph.proofs.turning.put_under_each.Given as goal
 

@@ -1,6 +1,6 @@
 -- one node more
 use Rattle.std.proofs.Common.{arith}
-use Rattle.conley_walk.proofs.ListLemmas.{row_in_range, row_of, length-items_of}
+use Rattle.conley_lists.proofs.ListLemmas.{row_in_range, row_of, length-items_of}
 use Rattle.conley_digraph.proofs.TurningLemmas.{turned_more, turned_all}
 use Rattle.conley_digraph.proofs.turning.turned_round.Goals as goal
 

@@ -1,4 +1,4 @@
-use Rattle.conley_walk.specs.Lists.{items_of}
+use Rattle.conley_lists.specs.Lists.{items_of}
 use Rattle.conley_digraph.specs.Turning.{IsTurnedSoFar}
 use Rattle.conley_digraph.proofs.turning.turned_round.Given as goal
 

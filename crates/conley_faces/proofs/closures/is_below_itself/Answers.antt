@@ -1,6 +1,6 @@
 use Rattle.std.proofs.Common.{arith, ◌<◌, length, sym, ◌∙◌}
-use Rattle.conley_walk.specs.Lists.{items_of}
-use Rattle.conley_walk.proofs.ListLemmas.{length-items_of, row_of, row_in_range, read_mark}
+use Rattle.conley_lists.specs.Lists.{items_of}
+use Rattle.conley_lists.proofs.ListLemmas.{length-items_of, row_of, row_in_range, read_mark}
 use Rattle.std.proofs.lemmas.Bool.{eqb-false, false≢true}
 use Rattle.conley_faces.specs.Closures.{IsMade}
 use Rattle.conley_faces.proofs.closures.is_below_itself.Goals as goal
@@ -20,7 +20,13 @@ returns c =
 pub returns-then-not-is_empty : goal.returns-then-not-is_empty
 returns-then-not-is_empty c =
     let some = eqb-false _ 0 (sym c.is_empty.ensures ∙ c.if-not-is_empty.true) in
-    let lt : c.args.x < length c.args.closures.now = omega (arith, c.requires.cell, length-items_of c.args.closures.now, c.requires.state.height, length-items_of c.args.direct.now) in
+    let lt : c.args.x < length c.args.closures.now = omega (
+      arith,
+      c.requires.cell,
+      length-items_of c.args.closures.now,
+      c.requires.state.height,
+      length-items_of c.args.direct.now,
+    ) in
     let row = row_of c.args.closures.now c.args.x c.index-closures-x.result lt c.index-closures-x.is in
     let made : IsMade (items_of c.args.closures.now) c.args.x = rw row (omega (arith, some, c.index-closures-x.result.ok.0)) in
     ((λ t. absurd (false≢true t)), (λ b. absurd (c.requires.state.no_cycle c.args.x made b)))

@@ -1,5 +1,5 @@
 use Rattle.std.proofs.Common.{◌≡◌, length}
-use Rattle.conley_walk.specs.Lists.{items_of}
+use Rattle.conley_lists.specs.Lists.{items_of}
 use Rattle.conley_faces.specs.Closures.{AreClosuresSoFar, IsUnmarked, unmade}
 use Rattle.conley_faces.proofs.closures.made_closures.Given as goal
 

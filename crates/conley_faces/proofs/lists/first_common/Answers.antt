@@ -1,7 +1,7 @@
 use Rattle.std.proofs.Common.{arith, ◌<◌, ◌≤◌, get_or, refl, below_more}
 use Rattle.std.proofs.lemmas.Bool.{false≢true}
 use Rattle.std.proofs.lemmas.List.Elements.{Contains-get_or}
-use Rattle.conley_walk.proofs.ListLemmas.{place_of, at_least}
+use Rattle.conley_lists.proofs.ListLemmas.{place_of, at_least}
 use Rattle.conley_faces.proofs.lists.first_common.Goals as goal
 
 pub returns-then-lies_below-clause-none : goal.returns-then-lies_below-clause-none

@@ -1,6 +1,6 @@
 use Rattle.std.proofs.Common.{get_or}
-use Rattle.conley_walk.specs.Lists.{items_of}
-use Rattle.conley_walk.proofs.ListLemmas.{row_of, take_whole}
+use Rattle.conley_lists.specs.Lists.{items_of}
+use Rattle.conley_lists.proofs.ListLemmas.{row_of, take_whole}
 use Rattle.conley_faces.proofs.MarkLemmas.{listed-more, taken-append}
 use Rattle.conley_faces.proofs.lists.joined.Goals as goal
 

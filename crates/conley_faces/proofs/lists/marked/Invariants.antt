@@ -1,6 +1,6 @@
 use Rattle.std.proofs.Common.{ℕ, take}
 use Rattle.std.specs.Prelude.{Contains, ◌↔◌}
-use Rattle.conley_walk.specs.Lists.{items_of}
+use Rattle.conley_lists.specs.Lists.{items_of}
 use Rattle.conley_faces.specs.Closures.{IsInListOf, AreMarked}
 use Rattle.conley_faces.proofs.lists.marked.Given as goal
 

@@ -1,6 +1,6 @@
 use Rattle.std.proofs.Common.{arith, get_or, take, length, ◌<◌}
 use Rattle.std.proofs.lemmas.List.{take_more}
-use Rattle.conley_walk.proofs.ListLemmas.{take_whole}
+use Rattle.conley_lists.proofs.ListLemmas.{take_whole}
 use Rattle.conley_faces.proofs.MarkLemmas.{marked-more, taken-new, taken-old}
 use Rattle.conley_faces.proofs.lists.take_unmarked.Goals.{then-not-seen-place+in_ok-push, else-not-seen-place}
 use Rattle.conley_faces.proofs.lists.take_unmarked.Goals as goal
@@ -17,13 +17,15 @@ loop-y-preserved c =
           rw (w.seen-is, w.taken-is, w.in_ok-push.ensures.items)
           (record {
             marks = marked-more c.loop-y.seen c.loop-y.taken.items h lt c.loop-y.invariant.marks;
-            taken = λ y. rw (take_more list i 0 c.loop-y-test.true) (taken-new c.args.taken.now.items (take i list) c.loop-y.taken.items h c.loop-y.invariant.taken y);
+            taken = λ y. rw (take_more list i 0 c.loop-y-test.true) (taken-new c.args.taken.now.items (take i list) c.loop-y.taken.items h
+                c.loop-y.invariant.taken y);
           })
       | else-not-seen-place w ↦
           rw (w.seen-is, w.taken-is)
           (record {
             marks = c.loop-y.invariant.marks;
-            taken = λ y. rw (take_more list i 0 c.loop-y-test.true) (taken-old c.args.taken.now.items (take i list) c.loop-y.taken.items h ((c.loop-y.invariant.marks.same h).0 w.if-not-seen-place.false) c.loop-y.invariant.taken y);
+            taken = λ y. rw (take_more list i 0 c.loop-y-test.true) (taken-old c.args.taken.now.items (take i list) c.loop-y.taken.items h
+                ((c.loop-y.invariant.marks.same h).0 w.if-not-seen-place.false) c.loop-y.invariant.taken y);
           })
     ]
 

@@ -1,5 +1,5 @@
 use Rattle.std.proofs.Common.{◌≡◌, ◌≤◌, length}
-use Rattle.conley_walk.specs.Lists.{items_of, entries_of}
+use Rattle.conley_lists.specs.Lists.{items_of, entries_of}
 use Rattle.conley_flow_tests.proofs.digraph_tests.many_nodes.Given as goal
 
 abbrev pub invariant-loop-x : goal.invariant-loop-x

@@ -8,4 +8,5 @@ use Rattle.conley_homology.proofs.cycles.relative.Given as goal
 
 abbrev pub invariant-loop-level : goal.invariant-loop-level
 invariant-loop-level g l =
-    IsGathered l.columns.kept.items (IsFree (dim_in l.part.dims.now) (place_in l.part.set.now) (vector_at l.columns.reduced.items) (owner_at l.columns.owner.items)) (length l.part.set.now) l.level l.numbers.items l.cycles.items
+    IsGathered l.columns.kept.items (IsFree (dim_in l.cells.dims.now) (place_in l.cells.set.now) (vector_at l.columns.reduced.items)
+    (owner_at l.columns.owner.items)) (length l.cells.set.now) l.level l.numbers.items l.cycles.items

@@ -6,7 +6,8 @@ use Rattle.conley_homology.proofs.elimination.eliminated.Given as goal
 
 abbrev pub invariant-loop-level : goal.invariant-loop-level
 invariant-loop-level g l =
-    IsReducedSoFar (g.F.Field.arithmetic l.field) l.part.boundary.now l.part.dims.now l.part.set.now l.part.keeps (λ j. l.level ≤ dim_in l.part.dims.now (place_in l.part.set.now j)) l.columns.kept.items l.columns.reduced.items
+    IsReducedSoFar (g.F.Field.arithmetic l.field) l.cells.boundary.now l.cells.dims.now l.cells.set.now l.cells.keeps
+    (λ j. l.level ≤ dim_in l.cells.dims.now (place_in l.cells.set.now j)) l.columns.kept.items l.columns.reduced.items
     l.columns.owner.items
 
 abbrev pub decreases-loop-level : goal.decreases-loop-level

@@ -1,6 +1,6 @@
 use Rattle.std.proofs.Common.{◌≡◌, ◌<◌, ℕ, length}
 use Rattle.std.specs.Prelude.{◌↔◌}
-use Rattle.conley_walk.specs.Lists.{items_of, ListedStep}
+use Rattle.conley_lists.specs.Lists.{items_of, ListedStep}
 use Rattle.conley_faces.specs.Face.{IsFace}
 use Rattle.conley_hull.proofs.closing.all_closures.Given as goal
 

@@ -3,8 +3,8 @@ use Rattle.std.proofs.Common.{arith, ◌≡◌, inl, inr, [], ◌∷◌, ℕ, Li
 use Rattle.std.specs.Prelude.{Contains}
 use Rattle.std.proofs.lemmas.Bool.{false≢true}
 use Rattle.std.proofs.lemmas.List.Elements.{Contains-append_left, Contains-push}
-use Rattle.conley_walk.specs.Lists.{items_of, ListedStep}
-use Rattle.conley_walk.proofs.ListLemmas.{Contains-none, empty_unless}
+use Rattle.conley_lists.specs.Lists.{items_of, ListedStep}
+use Rattle.conley_lists.proofs.ListLemmas.{Contains-none, empty_unless}
 use Rattle.conley_mvf.specs.Partition.{HaveNoGap}
 use Rattle.conley_hull.specs.Making.{IsClosedOver}
 use Rattle.conley_hull.proofs.ClosingLemmas.{closes-none, closes-on, closes-more}
@@ -42,7 +42,8 @@ loop-x-preserved c =
     record {
       table = c.in_ok-look.ensures.table;
       closes = closes-on Keeps c.args.labels.now.items old new c.loop-x.invariant.closes
-          (closes-more (IsClosedOver (ListedStep below)) Keeps old new (λ other none x y z f g s. none x y z ((faces x y).0 f) ((faces y z).0 g) s) (rw c.deref-in-Some.ensures.value at c.in_ok-look.ensures.closes));
+          (closes-more (IsClosedOver (ListedStep below)) Keeps old new (λ other none x y z f g s. none x y z ((faces x y).0 f) ((faces y z).0 g) s)
+          (rw c.deref-in-Some.ensures.value at c.in_ok-look.ensures.closes));
       cells = λ z waits. elim (c.in_ok-look.ensures.cells z waits) [
         | inl before ↦ c.loop-x.invariant.cells z (rw c.in-Some.ensures.items (Contains-append_left c.pop.new.self.items (c.in-Some.x ∷ []) z before))
         | inr lt ↦ omega (arith, lt, c.loop-x.invariant.closes.count, c.requires.count)

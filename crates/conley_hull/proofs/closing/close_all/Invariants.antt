@@ -1,6 +1,6 @@
 use Rattle.std.proofs.Common.{◌<◌, ℕ, length}
 use Rattle.std.specs.Prelude.{Contains}
-use Rattle.conley_walk.specs.Lists.{items_of, ListedStep}
+use Rattle.conley_lists.specs.Lists.{items_of, ListedStep}
 use Rattle.conley_mvf.specs.Partition.{HaveNoGap}
 use Rattle.conley_hull.specs.Making.{IsTable, Closes, GapsWait, work}
 use Rattle.conley_hull.proofs.closing.close_all.Given as goal

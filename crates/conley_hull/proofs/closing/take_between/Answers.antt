@@ -1,8 +1,8 @@
 -- one cell of the list more
 use Rattle.std.proofs.Common.{arith, ◌≡◌, inl, inr, ℕ, List, [], length, get_or, ap, subst, sym, ◌∙◌}
 use Rattle.std.proofs.lemmas.Bool.{cases_eq}
-use Rattle.conley_walk.specs.Lists.{items_of, ListedStep}
-use Rattle.conley_walk.proofs.ListLemmas.{row_of, place_of}
+use Rattle.conley_lists.specs.Lists.{items_of, ListedStep}
+use Rattle.conley_lists.proofs.ListLemmas.{row_of, place_of}
 use Rattle.conley_hull.specs.Making.{IsClosedOver, IsSettled}
 use Rattle.conley_hull.proofs.ClosingLemmas.{closes-on}
 use Rattle.conley_hull.proofs.WaitLemmas.{moved-on, settled-on}
@@ -30,9 +30,11 @@ loop-y-preserved c =
       waits = moved-on old mid new c.args.waiting.now.items waited waits c.loop-y.invariant.closes.count c.loop-y.invariant.waits done.waits;
       settled = λ j z lt step. elim (cases_eq j c.loop-y.y-index) [
         | inl e ↦
-            let at : get_or list j 0 ≡ get_or c.deref-y-items.result.now c.loop-y.y-index 0 = ap (λ (l : List ℕ). get_or l j 0) is ∙ ap (λ (i : ℕ). get_or c.deref-y-items.result.now i 0) e in
+            let at : get_or list j 0 ≡ get_or c.deref-y-items.result.now c.loop-y.y-index 0 = ap (λ (l : List ℕ). get_or l j 0) is
+            ∙ ap (λ (i : ℕ). get_or c.deref-y-items.result.now i 0) e in
             subst (λ (y : ℕ). ListedStep lists y z → IsSettled new waits c.args.x y z) (sym at) (done.settled z) step
-        | inr ne ↦ settled-on mid new waited waits c.args.x (get_or list j 0) z done.closes.coarser done.waits (c.loop-y.invariant.settled j z (omega arith) step)
+        | inr ne ↦ settled-on mid new waited waits c.args.x (get_or list j 0) z done.closes.coarser done.waits
+            (c.loop-y.invariant.settled j z (omega arith) step)
       ];
       work = omega (arith, done.work, c.loop-y.invariant.work);
     }

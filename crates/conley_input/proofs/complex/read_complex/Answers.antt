@@ -37,19 +37,24 @@ returns-in-Err-Bad-clause-err c = λ fault e.
     let file = file_of c.args.file in
     let refused = c.in-Err-Bad.fault in
     let is : c.in-Err-Bad.field-0 ≡ InputError.Bad refused = cc in
-    let first = subst (λ (F : Arithmetic). IsFirstIn F (complex_of c.args.file.complex) refused) c.in_ok-scalars.ensures.field (c.in-Err-Bad.ensures.err refused (ap (λ x. Err x) is)) in
+    let first = subst (λ (F : Arithmetic). IsFirstIn F (complex_of c.args.file.complex) refused) c.in_ok-scalars.ensures.field
+    (c.in-Err-Bad.ensures.err refused (ap (λ x. Err x) is)) in
     let told : c.earlier.result ≡ fault = cc in
     subst (IsFirstRefusal file) told (first_complex file c.in_ok-refuse_sizes.ensures.ok refused c.earlier.result c.first_bad_name-bad_name.result first
-    c.first_bad_name-bad_name.ensures.some c.first_bad_name-bad_name.ensures.first c.first_bad_name-bad_name.ensures.none c.earlier.ensures.label c.earlier.ensures.name c.earlier.ensures.none)
+    c.first_bad_name-bad_name.ensures.some c.first_bad_name-bad_name.ensures.first c.first_bad_name-bad_name.ensures.none c.earlier.ensures.label
+    c.earlier.ensures.name c.earlier.ensures.none)
 
 pub returns-in-Some-clause-err : goal.returns-in-Some-clause-err
 returns-in-Some-clause-err c = λ fault e.
     let file = file_of c.args.file in
-    let accepted = subst (λ (F : Arithmetic). (fault : FileFault) → ¬ FailsIn F (complex_of c.args.file.complex) fault) c.in_ok-scalars.ensures.field c.in-Ok.ensures.accepted in
+    let accepted = subst (λ (F : Arithmetic). (fault : FileFault) → ¬ FailsIn F (complex_of c.args.file.complex) fault) c.in_ok-scalars.ensures.field
+    c.in-Ok.ensures.accepted in
     let told : fault_of.BadLabel c.in-Some.k ≡ fault = cc in
-    subst (IsFirstRefusal file) told (first_name file c.in_ok-refuse_sizes.ensures.ok c.in-Some.k c.in-Some.ensures.some c.in-Some.ensures.first (λ j. accepted (fault_of.BadLabel j)))
+    subst (IsFirstRefusal file) told (first_name file c.in_ok-refuse_sizes.ensures.ok c.in-Some.k c.in-Some.ensures.some c.in-Some.ensures.first
+    (λ j. accepted (fault_of.BadLabel j)))
 
 pub returns-clause-clear : goal.returns-clause-clear
 returns-clause-clear c =
-    let accepted = subst (λ (F : Arithmetic). (fault : FileFault) → ¬ FailsIn F (complex_of c.args.file.complex) fault) c.in_ok-scalars.ensures.field c.in-Ok.ensures.accepted in
+    let accepted = subst (λ (F : Arithmetic). (fault : FileFault) → ¬ FailsIn F (complex_of c.args.file.complex) fault) c.in_ok-scalars.ensures.field
+    c.in-Ok.ensures.accepted in
     clear_complex (file_of c.args.file) c.in_ok-refuse_sizes.ensures.ok accepted c.in_default.ensures.none

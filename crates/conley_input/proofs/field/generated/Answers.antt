@@ -1,6 +1,6 @@
 use Rattle.std.proofs.Common.{arith, ◌≡◌, ℕ, List, Err, length, sym, ap, subst}
-use Rattle.conley_walk.specs.Lists.{items_of}
-use Rattle.conley_walk.proofs.ListLemmas.{length-items_of}
+use Rattle.conley_lists.specs.Lists.{items_of}
+use Rattle.conley_lists.proofs.ListLemmas.{length-items_of}
 use Rattle.conley_hull.specs.declared.error.HullError.TheVariants as HullError
 use Rattle.conley_mvf.specs.Fault as parts
 use Rattle.conley_mvf.specs.declared.error.PartError.TheVariants as part
@@ -39,4 +39,5 @@ returns-in-Err-Unknown-clause-err c = λ file is clear fault e.
     let told : c.in-Err-Unknown.field-0 ≡ HullError.Unknown c.in-Err-Unknown.list c.in-Err-Unknown.place = cc in
     let first = c.in-Err-Unknown.ensures.unknown c.in-Err-Unknown.list c.in-Err-Unknown.place (ap (λ x. Err x) told) in
     let unknown = rw c.faces.ensures.faces at first.unknown in
-    absurd (none_unknown (length layout.faces) (items_of c.args.lists.now) (λ k x s. omega (arith, c.requires.known k x s, cells)) c.in-Err-Unknown.list c.in-Err-Unknown.place unknown)
+    absurd (none_unknown (length layout.faces) (items_of c.args.lists.now) (λ k x s. omega (arith, c.requires.known k x s, cells)) c.in-Err-Unknown.list
+    c.in-Err-Unknown.place unknown)

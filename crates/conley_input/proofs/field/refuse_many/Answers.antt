@@ -1,6 +1,6 @@
 use Rattle.std.proofs.Common.{arith, ◌≡◌, take, length-append}
-use Rattle.conley_walk.proofs.ListLemmas.{take_whole}
-use Rattle.conley_walk.proofs.EntryLemmas.{entries_more}
+use Rattle.conley_lists.proofs.ListLemmas.{take_whole}
+use Rattle.conley_lists.proofs.EntryLemmas.{entries_more}
 use Rattle.conley_input.proofs.field.refuse_many.Goals as goal
 
 pub loop-list-preserved : goal.loop-list-preserved

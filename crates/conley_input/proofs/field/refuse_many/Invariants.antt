@@ -1,5 +1,5 @@
 use Rattle.std.proofs.Common.{◌≡◌, ◌<◌, ◌^◌, length, take}
-use Rattle.conley_walk.specs.Lists.{items_of, entries_of}
+use Rattle.conley_lists.specs.Lists.{items_of, entries_of}
 use Rattle.conley_input.proofs.field.refuse_many.Given as goal
 
 -- the entries so far are counted

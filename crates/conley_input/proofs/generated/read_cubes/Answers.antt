@@ -1,6 +1,6 @@
 use Rattle.std.proofs.Common.{◌≡◌, refl}
 use Rattle.conley_field.specs.AnyField.{arithmetic_of}
-use Rattle.conley_walk.specs.Lists.{items_of}
+use Rattle.conley_lists.specs.Lists.{items_of}
 use Rattle.conley_input.specs.Errors.{cubes_error}
 use Rattle.conley_input.specs.declared.error.InputError.TheVariants as InputError
 use Rattle.conley_input.proofs.KindLemmas.{cubes_not_memory, first_cubes, no_cubes}
@@ -13,4 +13,5 @@ pub returns-in-Err-clause-err : goal.returns-in-Err-clause-err
 returns-in-Err-clause-err c = λ fault e.
     let error = c.in-Err.error in
     let same : cubes_error error ≡ InputError.Bad fault = cc in
-    first_cubes (arithmetic_of c.args.field) c.args.axes (items_of c.args.cubes.now) error (c.in-Err.ensures.err error refl (cubes_not_memory error fault same)) fault same
+    first_cubes (arithmetic_of c.args.field) c.args.axes (items_of c.args.cubes.now) error
+    (c.in-Err.ensures.err error refl (cubes_not_memory error fault same)) fault same

@@ -1,6 +1,6 @@
 use Rattle.std.proofs.Common.{sym, ◌∙◌, ap, below_more}
+use Rattle.conley_lefschetz.proofs.TextLemmas.{label_at}
 use Rattle.conley_input.specs.Refusals.{is_label}
-use Rattle.conley_input.proofs.TextLemmas.{label_at}
 use Rattle.conley_input.proofs.labels.first_bad_label.Goals as goal
 
 pub loop-k-preserved : goal.loop-k-preserved

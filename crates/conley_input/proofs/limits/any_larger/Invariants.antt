@@ -1,5 +1,5 @@
 use Rattle.std.proofs.Common.{◌-◌, ◌<◌, ◌≤◌, ℕ, List, map, length, get_or}
-use Rattle.conley_walk.specs.Lists.{items_of}
+use Rattle.conley_lists.specs.Lists.{items_of}
 use Rattle.conley_input.proofs.limits.any_larger.Given as goal
 
 abbrev pub invariant-loop-simplex : goal.invariant-loop-simplex

@@ -1,7 +1,7 @@
 use Rattle.std.proofs.Common.{arith, [], length, ◌∙◌, ap, below_more}
 use Rattle.std.proofs.lemmas.List.{get_or_default}
-use Rattle.conley_input.specs.Meaning.{bytes_of}
-use Rattle.conley_input.proofs.TextLemmas.{label_at, length-bytes_of}
+use Rattle.conley_lefschetz.specs.Listing.{bytes_of}
+use Rattle.conley_lefschetz.proofs.TextLemmas.{label_at, length-bytes_of}
 use Rattle.conley_input.proofs.limits.any_longer.Goals as goal
 
 pub loop-label-preserved : goal.loop-label-preserved
@@ -12,5 +12,10 @@ loop-label-preserved c =
 pub returns : goal.returns
 returns c = (
   (λ t. cc),
-  (λ a. absurd (omega (arith, a.4, c.loop-label.invariant a.0 (omega (arith, a.2, length-bytes_of c.args.labels.now)), ap length (get_or_default (bytes_of c.args.labels.now) a.0 [] a.1 a.2 ∙ a.3)))),
+  (λ a. absurd (omega (
+    arith,
+    a.4,
+    c.loop-label.invariant a.0 (omega (arith, a.2, length-bytes_of c.args.labels.now)),
+    ap length (get_or_default (bytes_of c.args.labels.now) a.0 [] a.1 a.2 ∙ a.3),
+  ))),
 )

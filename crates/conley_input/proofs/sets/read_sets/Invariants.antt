@@ -1,6 +1,6 @@
 use Rattle.std.proofs.Common.{◌≡◌, map, take, string_bytes}
-use Rattle.conley_walk.specs.Lists.{items_of, IsOrderedCopy}
-use Rattle.conley_input.specs.Meaning.{bytes_of}
+use Rattle.conley_lefschetz.specs.Listing.{bytes_of}
+use Rattle.conley_lists.specs.Lists.{items_of, IsOrderedCopy}
 use Rattle.conley_input.specs.declared.sets.NamedSet.{NamedSet}
 use Rattle.conley_input.proofs.sets.read_sets.Given as goal
 

@@ -21,13 +21,19 @@ loop-i-preserved c =
     (others : (q : ℕ) → q ≢ p → get_or first' q 0 ≡ get_or first q 0).
     let within : p < length first' = omega (arith, in_row, width) in
     let pushed : c.index-in-loop-i.result.now ≡ get_or first' p 0 =
-    c.index-in-loop-i.ensures ∙ ap (λ (f : List ℕ). get_or f p c.index-in-loop-i.result.now) is ∙ get_or_default first' p c.index-in-loop-i.result.now 0 within in
+    c.index-in-loop-i.ensures ∙ ap (λ (f : List ℕ). get_or f p c.index-in-loop-i.result.now) is
+    ∙ get_or_default first' p c.index-in-loop-i.result.now 0 within in
     let result : HasFirstsSoFar parts (i + 1) c.if-index-none.first.items c.push.new.self.items × (length c.if-index-none.first.items ≡ c.args.count) =
-    rw (is, c.in_ok-push.ensures.items) (firsts-more parts i first first' c.loop-i.firsts.items lt c.loop-i.invariant.0 width in_row here others c.index-in-loop-i.result.now pushed, width ∙ c.loop-i.invariant.1) in
+    rw (is, c.in_ok-push.ensures.items) (
+      firsts-more parts i first first' c.loop-i.firsts.items lt c.loop-i.invariant.0 width in_row here others
+          c.index-in-loop-i.result.now pushed,
+      width ∙ c.loop-i.invariant.1,
+    ) in
     result in
     elim c.if-index-none.branch [
       | then-index-none w ↦
-          more (set first p i) (length-set first p i) (ap (λ (v : Vec ℕ Global). v.items) w.first-is) (inl (sym was ∙ w.if-index-none.true, get_or-set_same first p i 0 in_row))
+          more (set first p i) (length-set first p i) (ap (λ (v : Vec ℕ Global). v.items) w.first-is)
+          (inl (sym was ∙ w.if-index-none.true, get_or-set_same first p i 0 in_row))
           (λ q ne. get_or-set_other first p q i 0 ne)
       | else-index-none w ↦
           more first refl (ap (λ (v : Vec ℕ Global). v.items) w.first-is) (inr ((λ e. w.if-index-none.false (was ∙ e)), refl)) (λ q ne. refl)

@@ -1,7 +1,7 @@
 use Rattle.std.proofs.Common.{◌≡◌, ◌<◌, ℕ, length, get_or, refl, sym, ◌∙◌, subst}
 use Rattle.std.proofs.lemmas.Bool.{false≢true}
-use Rattle.conley_walk.specs.Lists.{IsMarked}
-use Rattle.conley_walk.proofs.ListLemmas.{take_whole}
+use Rattle.conley_lists.specs.Lists.{IsMarked}
+use Rattle.conley_lists.proofs.ListLemmas.{take_whole}
 use Rattle.conley_faces.proofs.PartLemmas.{part-more, part-other}
 use Rattle.conley_isolation.proofs.PlaceLemmas.{one_place}
 use Rattle.conley_isolation.proofs.set_report.marked.Goals.{then-row-i+then-other-i+in_ok-push, else-row-i, else-row-i-via-then-row-i+else-other-i, else-row-i-via-else-row-i}
@@ -15,7 +15,8 @@ loop-i-preserved c =
     elim c.if-row-i.branch [
       | then-row-i+then-other-i+in_ok-push w ↦
           rw (w.part-is, w.in_ok-push.ensures.items)
-          (part-more both set c.loop-i.part.items n c.loop-i-test.true c.requires.set c.loop-i.invariant (n, c.loop-i-test.true, refl, w.if-row-i.true, w.if-other-i.true))
+          (part-more both set c.loop-i.part.items n c.loop-i-test.true c.requires.set c.loop-i.invariant
+          (n, c.loop-i-test.true, refl, w.if-row-i.true, w.if-other-i.true))
       | else-row-i w ↦
           rw w.part-is
           (part-other both set c.loop-i.part.items n c.loop-i-test.true c.requires.set c.loop-i.invariant (λ k.

@@ -1,5 +1,5 @@
 use Rattle.std.proofs.Common.{◌≡◌, ◌<◌, ℕ, length, get_or, take}
-use Rattle.conley_walk.specs.Lists.{IsMarked}
+use Rattle.conley_lists.specs.Lists.{IsMarked}
 use Rattle.conley_faces.specs.Closures.{IsPart}
 use Rattle.conley_isolation.proofs.set_report.marked.Given as goal
 

@@ -1,7 +1,7 @@
 use Rattle.std.proofs.Common.{arith, refl}
 use Rattle.std.proofs.lemmas.Bool.{false≢true}
-use Rattle.conley_walk.specs.Lists.{items_of}
-use Rattle.conley_walk.proofs.ListLemmas.{row_of, row_in_range, length-items_of, step_begins}
+use Rattle.conley_lists.specs.Lists.{items_of}
+use Rattle.conley_lists.proofs.ListLemmas.{row_of, row_in_range, length-items_of, step_begins}
 use Rattle.conley_isolation.specs.Making.{Crosses}
 use Rattle.conley_isolation.proofs.StartLemmas.{crosses_by_class, taken-more, taken-other}
 use Rattle.conley_isolation.proofs.starts.crossing.Goals.{then-crosses+in_ok-push, else-crosses}

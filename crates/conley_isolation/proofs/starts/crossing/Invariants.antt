@@ -1,6 +1,6 @@
 use Rattle.std.proofs.Common.{◌<◌, ℕ}
 use Rattle.std.specs.Prelude.{Contains, ◌↔◌}
-use Rattle.conley_walk.specs.Lists.{items_of}
+use Rattle.conley_lists.specs.Lists.{items_of}
 use Rattle.conley_isolation.specs.Making.{Crosses}
 use Rattle.conley_isolation.proofs.starts.crossing.Given as goal
 

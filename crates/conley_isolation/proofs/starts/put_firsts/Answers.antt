@@ -1,7 +1,7 @@
 use Rattle.std.proofs.Common.{arith, inl, inr, get_or, sym, ap, ◌∙◌, subst, ℕ}
 use Rattle.std.proofs.lemmas.Bool.{cases_eq}
-use Rattle.conley_transitions.specs.Field.{IsCalledRegular}
-use Rattle.conley_graph.specs.Decomposition.{field_of}
+use Rattle.conley_transitions.specs.Flow.{IsCalledRegular}
+use Rattle.conley_graph.specs.Decomposition.{flow_of}
 use Rattle.conley_isolation.proofs.starts.put_firsts.Goals.{then-firsts-i+in_ok-put_critical, else-firsts-i}
 use Rattle.conley_isolation.proofs.starts.put_firsts.Goals as goal
 
@@ -9,7 +9,8 @@ pub loop-i-preserved : goal.loop-i-preserved
 loop-i-preserved g c =
     let firsts = c.args.firsts.now in
     let n = c.loop-i.i in
-    let critical = λ (i : ℕ). IsCalledRegular (field_of (g.F.Field.arithmetic c.args.complex.now.0) c.args.complex.now.1 c.args.partition.now) (get_or c.args.parts.now i 0) → ⊥ in
+    let critical = λ (i : ℕ). IsCalledRegular (flow_of (g.F.Field.arithmetic c.args.complex.now.0) c.args.complex.now.1 c.args.partition.now)
+    (get_or c.args.parts.now i 0) → ⊥ in
     elim c.if-firsts-i.branch [
       | then-firsts-i+in_ok-put_critical w ↦ rw w.starts-is (λ i.
           let before = c.loop-i.invariant i in

@@ -1,4 +1,4 @@
-use Rattle.conley_walk.specs.Lists.{items_of}
+use Rattle.conley_lists.specs.Lists.{items_of}
 use Rattle.conley_isolation.specs.Making.{HasFaceSteps}
 use Rattle.conley_isolation.proofs.within.face_steps.Given as goal
 

@@ -1,6 +1,6 @@
 use Rattle.std.proofs.Common.{◌≡◌, ◌≤◌, ℕ, [], replicate, length}
 use Rattle.std.specs.Prelude.{◌↔◌}
-use Rattle.conley_walk.specs.Lists.{items_of, ListedStep, entries_of}
+use Rattle.conley_lists.specs.Lists.{items_of, ListedStep, entries_of}
 use Rattle.conley_lefschetz.specs.Fault.{StoodBefore}
 use Rattle.conley_lefschetz.proofs.incidences.face_lists.Given as goal
 

@@ -11,8 +11,10 @@ pub loop-dim-preserved : goal.loop-dim-preserved
 loop-dim-preserved c =
     let more = take_more c.args.dims.now c.loop-dim.dim-index 0 c.loop-dim-test.true in
     rw more (elim (cases_lt (get_or c.args.dims.now c.loop-dim.dim-index 0) c.loop-dim.levels) [
-      | inl lt ↦ rw (c.raised-levels.ensures.same lt) (levels_same (take c.loop-dim.dim-index c.args.dims.now) (get_or c.args.dims.now c.loop-dim.dim-index 0) c.loop-dim.levels c.loop-dim.invariant lt)
-      | inr ge ↦ rw (c.raised-levels.ensures.more ge) (levels_more (take c.loop-dim.dim-index c.args.dims.now) (get_or c.args.dims.now c.loop-dim.dim-index 0) c.loop-dim.levels c.loop-dim.invariant ge)
+      | inl lt ↦ rw (c.raised-levels.ensures.same lt) (levels_same (take c.loop-dim.dim-index c.args.dims.now) (get_or c.args.dims.now c.loop-dim.dim-index 0)
+          c.loop-dim.levels c.loop-dim.invariant lt)
+      | inr ge ↦ rw (c.raised-levels.ensures.more ge) (levels_more (take c.loop-dim.dim-index c.args.dims.now) (get_or c.args.dims.now c.loop-dim.dim-index 0)
+          c.loop-dim.levels c.loop-dim.invariant ge)
     ])
 
 pub returns : goal.returns

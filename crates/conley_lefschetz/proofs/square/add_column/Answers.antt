@@ -23,10 +23,12 @@ loop-e-preserved g c =
     let read = rw entries at c.e-item.is in
     let within = place_within (get_or c.args.matrix.now.columns c.args.x []) (column_count c.args.matrix.now) c.loop-e.e-index c.e-item.result chain
     (λ place beyond. c.column.ensures.keeps_rows place (omega (arith, beyond, c.requires.square))) below read in
-    square_more (g.met.F.Field.is_field c.args.field.now) c.args.matrix.now c.args.x c.loop-e.e-index c.loop-e.sums c.add_multiple.new.sums c.e-item.result chain below read within c.loop-e.invariant
+    square_more (g.met.F.Field.is_field c.args.field.now) c.args.matrix.now c.args.x c.loop-e.e-index c.loop-e.sums c.add_multiple.new.sums c.e-item.result
+    chain below read within c.loop-e.invariant
     (rw c.column-in-loop-e.ensures.column at c.add_multiple.ensures)
 
 pub returns : goal.returns
 returns g c =
     let entries = c.entries-e-items.ensures.entries ∙ c.column.ensures.column in
-    square_end (g.met.F.Field.is_field c.args.field.now) c.args.matrix.now c.args.x c.loop-e.e-index c.loop-e.sums c.loop-e.invariant (rw (← entries) (omega (arith, c.loop-e-test.false)))
+    square_end (g.met.F.Field.is_field c.args.field.now) c.args.matrix.now c.args.x c.loop-e.e-index c.loop-e.sums c.loop-e.invariant
+    (rw (← entries) (omega (arith, c.loop-e-test.false)))

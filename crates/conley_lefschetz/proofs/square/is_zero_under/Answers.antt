@@ -15,4 +15,5 @@ pub returns : goal.returns
 returns c = λ _ y z upper lower.
     let entries = c.entries-e-items.ensures.entries ∙ c.column.ensures.column in
     let at = entry_of (get_or c.args.matrix.now.columns c.args.x []) y upper in
-    c.loop-e.invariant at.0 (0, 0) z (omega (arith, at.1.0, c.loop-e-test.false, ap length entries)) (subst (λ (q : ℕ). entry c.args.matrix.now z q ≢ 0) (sym (at.1.1 (0, 0))) lower)
+    c.loop-e.invariant at.0 (0, 0) z (omega (arith, at.1.0, c.loop-e-test.false, ap length entries))
+    (subst (λ (q : ℕ). entry c.args.matrix.now z q ≢ 0) (sym (at.1.1 (0, 0))) lower)

@@ -1,5 +1,5 @@
 use Rattle.std.proofs.Common.{length}
-use Rattle.conley_walk.specs.Lists.{items_of}
+use Rattle.conley_lists.specs.Lists.{items_of}
 use Rattle.conley_morse.specs.Covers.{lower_test, AreCoversSoFar}
 use Rattle.conley_morse.proofs.order.covers.Given as goal
 

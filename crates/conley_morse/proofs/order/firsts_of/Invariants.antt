@@ -1,4 +1,4 @@
-use Rattle.conley_walk.specs.Lists.{items_of}
+use Rattle.conley_lists.specs.Lists.{items_of}
 use Rattle.conley_morse.specs.Covers.{AreFirstCells}
 use Rattle.conley_morse.proofs.order.firsts_of.Given as goal
 

@@ -1,6 +1,6 @@
 use Rattle.std.proofs.Common.{ap, sym, ◌∙◌, arith, length, below_more}
 use Rattle.std.proofs.lemmas.Bool.{eqb-false}
-use Rattle.conley_walk.proofs.ListLemmas.{row_of}
+use Rattle.conley_lists.proofs.ListLemmas.{row_of}
 use Rattle.conley_mvf.proofs.faults.first_empty.Goals as goal
 
 pub loop-k-preserved : goal.loop-k-preserved

@@ -1,6 +1,6 @@
 use Rattle.std.proofs.Common.{arith, subst, refl, ◌∙◌, sym, below_more}
-use Rattle.conley_walk.specs.Lists.{items_of}
-use Rattle.conley_walk.proofs.ListLemmas.{length-items_of, row_of}
+use Rattle.conley_lists.specs.Lists.{items_of}
+use Rattle.conley_lists.proofs.ListLemmas.{length-items_of, row_of}
 use Rattle.conley_faces.specs.Face.{IsFirstGap, IsLocallyClosed}
 use Rattle.conley_mvf.proofs.GapLemmas.{gap_here, gap_listed}
 use Rattle.conley_mvf.proofs.faults.first_gap.Goals as goal

@@ -1,5 +1,5 @@
 use Rattle.std.proofs.Common.{◌<◌, ℕ, [], get_or}
-use Rattle.conley_walk.specs.Lists.{items_of}
+use Rattle.conley_lists.specs.Lists.{items_of}
 use Rattle.conley_faces.specs.Face.{IsGap}
 use Rattle.conley_mvf.proofs.faults.first_gap.Given as goal
 

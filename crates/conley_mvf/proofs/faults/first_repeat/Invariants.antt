@@ -1,5 +1,5 @@
 use Rattle.std.proofs.Common.{◌≡◌, length}
-use Rattle.conley_walk.specs.Lists.{items_of}
+use Rattle.conley_lists.specs.Lists.{items_of}
 use Rattle.conley_mvf.specs.Making.{MarkedSoFar}
 use Rattle.conley_mvf.proofs.faults.first_repeat.Given as goal
 

@@ -1,9 +1,8 @@
 use Rattle.std.proofs.Common.{arith, inl, inr, subst}
 use Rattle.std.proofs.lemmas.Bool.{cases_eq}
-use Rattle.conley_walk.specs.Lists.{items_of}
-use Rattle.conley_walk.proofs.ListLemmas.{length-items_of, row_of}
+use Rattle.conley_lists.specs.Lists.{items_of}
+use Rattle.conley_lists.proofs.ListLemmas.{length-items_of, row_of, at_list}
 use Rattle.conley_mvf.specs.Fault.{IsUnknown}
-use Rattle.conley_mvf.proofs.MarkLemmas.{at_list}
 use Rattle.conley_mvf.proofs.faults.first_unknown.Goals as goal
 
 pub loop-k-preserved : goal.loop-k-preserved
@@ -17,4 +16,9 @@ loop-k-preserved c = λ j q lt unknown. elim (cases_eq j c.loop-k.k) [
 ]
 
 pub returns : goal.returns
-returns c = λ l q unknown. c.loop-k.invariant l q (omega (arith, at_list (items_of c.args.lists.now) l q unknown.0, length-items_of c.args.lists.now, c.loop-k-test.false)) unknown
+returns c = λ l q unknown. c.loop-k.invariant l q (omega (
+  arith,
+  at_list (items_of c.args.lists.now) l q unknown.0,
+  length-items_of c.args.lists.now,
+  c.loop-k-test.false,
+)) unknown

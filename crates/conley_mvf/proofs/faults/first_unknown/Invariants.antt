@@ -1,5 +1,5 @@
 use Rattle.std.proofs.Common.{◌<◌, ℕ}
-use Rattle.conley_walk.specs.Lists.{items_of}
+use Rattle.conley_lists.specs.Lists.{items_of}
 use Rattle.conley_mvf.specs.Fault.{IsUnknown}
 use Rattle.conley_mvf.proofs.faults.first_unknown.Given as goal
 

@@ -22,13 +22,16 @@ loop-x-preserved c =
     (others : (q : ℕ) → q ≢ p → get_or first' q 0 ≡ get_or first q 0).
     let within' : p < length first' = omega (arith, in_first, width) in
     let pushed : c.index-in-loop-x.result.now ≡ get_or first' p 0 =
-    c.index-in-loop-x.ensures ∙ ap (λ (f : List ℕ). get_or f p c.index-in-loop-x.result.now) is ∙ get_or_default first' p c.index-in-loop-x.result.now 0 within' in
+    c.index-in-loop-x.ensures ∙ ap (λ (f : List ℕ). get_or f p c.index-in-loop-x.result.now) is
+    ∙ get_or_default first' p c.index-in-loop-x.result.now 0 within' in
     let result : FirstsSoFar labels (x + 1) c.if-index-none.first.items c.push.new.self.items =
-    rw (is, c.in_ok-push.ensures.items) (firsts-more labels x first first' c.loop-x.least.items lt within c.loop-x.invariant width here others c.index-in-loop-x.result.now pushed) in
+    rw (is, c.in_ok-push.ensures.items) (firsts-more labels x first first' c.loop-x.least.items lt within c.loop-x.invariant width here others
+    c.index-in-loop-x.result.now pushed) in
     result in
     elim c.if-index-none.branch [
       | then-index-none w ↦
-          more (set first p x) (length-set first p x) (ap (λ (v : Vec ℕ Global). v.items) w.first-is) (inl (sym was ∙ w.if-index-none.true, get_or-set_same first p x 0 in_first))
+          more (set first p x) (length-set first p x) (ap (λ (v : Vec ℕ Global). v.items) w.first-is)
+          (inl (sym was ∙ w.if-index-none.true, get_or-set_same first p x 0 in_first))
           (λ q ne. get_or-set_other first p q x 0 ne)
       | else-index-none w ↦
           more first refl (ap (λ (v : Vec ℕ Global). v.items) w.first-is) (inr ((λ e. w.if-index-none.false (was ∙ e)), refl)) (λ q ne. refl)

@@ -1,7 +1,7 @@
 -- one list more
 use Rattle.std.proofs.Common.{arith, [], get_or, ◌∙◌, sym, subst}
-use Rattle.conley_walk.specs.Lists.{items_of}
-use Rattle.conley_walk.proofs.ListLemmas.{row_of}
+use Rattle.conley_lists.specs.Lists.{items_of}
+use Rattle.conley_lists.proofs.ListLemmas.{row_of}
 use Rattle.conley_mvf.specs.Making.{PutsFirst}
 use Rattle.conley_mvf.proofs.MarkLemmas.{all_below}
 use Rattle.conley_mvf.proofs.FirstsLemmas.{tells-more}
@@ -11,7 +11,12 @@ pub put_first-requires : goal.put_first-requires
 put_first-requires c =
     let row = row_of c.args.lists.now c.loop-list.list-index c.list-item.result c.loop-list-test.true c.list-item.is in
     rw (c.deref.ensures.value, ← row)
-    (λ k d lt. omega (arith, all_below (get_or (items_of c.args.lists.now) c.loop-list.list-index []) c.args.cells (c.requires.cells c.loop-list.list-index) k d lt, c.loop-list.invariant.count))
+    (λ k d lt. omega (
+      arith,
+      all_below (get_or (items_of c.args.lists.now) c.loop-list.list-index []) c.args.cells (c.requires.cells c.loop-list.list-index) k
+          d lt,
+      c.loop-list.invariant.count,
+    ))
 
 pub loop-list-preserved : goal.loop-list-preserved
 loop-list-preserved c =

@@ -1,5 +1,5 @@
 use Rattle.std.proofs.Common.{◌≡◌, ◌<◌, ℕ, length, get_or}
-use Rattle.conley_walk.specs.Lists.{items_of}
+use Rattle.conley_lists.specs.Lists.{items_of}
 use Rattle.conley_mvf.specs.Making.{TellsFirst}
 use Rattle.conley_mvf.proofs.numbering.firsts_of.Given as goal
 

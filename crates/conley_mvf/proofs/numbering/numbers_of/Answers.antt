@@ -15,8 +15,13 @@ loop-x-preserved c =
           rw (w.part_of-is, w.next-is, w.in_ok-push.ensures.items)
           (numbers-new least x part_of c.loop-x.next c.loop-x-test.true c.requires.least c.loop-x.invariant w.if-first-x.true)
       | else-first-x+in_ok-push-2 w ↦
-          let before : get_or least x 0 < length part_of = omega (arith, c.loop-x.invariant.count, first_before least x part_of c.loop-x.next c.loop-x-test.true c.requires.least c.loop-x.invariant w.if-first-x.false) in
-          let number : w.index-number.result.now ≡ get_or part_of (get_or least x 0) 0 = w.index-number.ensures ∙ get_or_default part_of (get_or least x 0) w.index-number.result.now 0 before in
+          let before : get_or least x 0 < length part_of = omega (
+            arith,
+            c.loop-x.invariant.count,
+            first_before least x part_of c.loop-x.next c.loop-x-test.true c.requires.least c.loop-x.invariant w.if-first-x.false,
+          ) in
+          let number : w.index-number.result.now ≡ get_or part_of (get_or least x 0) 0 = w.index-number.ensures
+          ∙ get_or_default part_of (get_or least x 0) w.index-number.result.now 0 before in
           rw (w.part_of-is, w.next-is, w.in_ok-push-2.ensures.items)
           (numbers-old least x part_of c.loop-x.next c.loop-x-test.true c.requires.least c.loop-x.invariant w.if-first-x.false w.index-number.result.now number)
     ]

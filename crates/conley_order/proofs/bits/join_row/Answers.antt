@@ -5,4 +5,5 @@ use Rattle.conley_order.proofs.bits.join_row.Goals as goal
 pub returns : goal.returns
 returns c =
     let all : c.loop-k.k ≡ length c.args.words.now = omega arith in
-    joined_all c.args.words.now c.loop-k.words c.args.row.now (subst (λ (n : ℕ). JoinedSoFar c.args.words.now c.loop-k.words c.args.row.now n) all c.loop-k.invariant)
+    joined_all c.args.words.now c.loop-k.words c.args.row.now (subst (λ (n : ℕ). JoinedSoFar c.args.words.now c.loop-k.words c.args.row.now n) all
+    c.loop-k.invariant)

@@ -1,5 +1,5 @@
 use Rattle.std.proofs.Common.{length}
-use Rattle.conley_walk.specs.Lists.{items_of}
+use Rattle.conley_lists.specs.Lists.{items_of}
 use Rattle.conley_order.specs.LowerRows.{lower_by, AreLowerRows}
 use Rattle.conley_order.proofs.lower.lower_rows.Given as goal
 

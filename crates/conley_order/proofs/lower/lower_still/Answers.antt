@@ -1,7 +1,7 @@
 use Rattle.std.proofs.Common.{arith, ◌≡◌, ◌≤◌, ◌*◌, ◌∙◌, ℕ, [], length, get_or, ap, subst}
 use Rattle.std.proofs.lemmas.Bool.{iff_false}
-use Rattle.conley_walk.specs.Lists.{items_of}
-use Rattle.conley_walk.proofs.ListLemmas.{row_of, lent_whole, length-items_of}
+use Rattle.conley_lists.specs.Lists.{items_of}
+use Rattle.conley_lists.proofs.ListLemmas.{row_of, lent_whole, length-items_of}
 use Rattle.conley_order.proofs.LowerRowLemmas.{StillSoFar, still_same, still_more}
 use Rattle.conley_order.proofs.lower.lower_still.Goals.{then-has_bit, else-has_bit}
 use Rattle.conley_order.proofs.lower.lower_still.Goals as goal
@@ -16,7 +16,15 @@ pub join_row-requires : goal.join_row-requires
 join_row-requires c =
     let row = row_of c.args.lower.now c.loop-r.r c.index-lower-r.result c.loop-r-test.true c.index-lower-r.is in
     let wide = c.requires.wide c.loop-r.r (omega (arith, c.loop-r-test.true, length-items_of c.args.lower.now)) in
-    omega (arith, wide, ap length row, ap length c.deref-then-has_bit.ensures.value, ap length c.deref_mut.ensures.value, length-items_of c.args.lower.now, c.loop-r.invariant.width)
+    omega (
+      arith,
+      wide,
+      ap length row,
+      ap length c.deref-then-has_bit.ensures.value,
+      ap length c.deref_mut.ensures.value,
+      length-items_of c.args.lower.now,
+      c.loop-r.invariant.width,
+    )
 
 pub loop-r-preserved : goal.loop-r-preserved
 loop-r-preserved c =

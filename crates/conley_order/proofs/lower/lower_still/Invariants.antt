@@ -1,5 +1,5 @@
 use Rattle.std.proofs.Common.{◌≡◌, ◌+◌, ◌/◌, [], length, get_or}
-use Rattle.conley_walk.specs.Lists.{items_of}
+use Rattle.conley_lists.specs.Lists.{items_of}
 use Rattle.conley_order.proofs.LowerRowLemmas.{StillSoFar}
 use Rattle.conley_order.proofs.lower.lower_still.Given as goal
 

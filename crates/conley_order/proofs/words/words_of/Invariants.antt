@@ -1,6 +1,6 @@
 use Rattle.std.proofs.Common.{◌≡◌, ◌+◌, ◌/◌, ℕ, length, vec_len, take}
 use Rattle.std.specs.Prelude.{◌↔◌}
-use Rattle.conley_walk.specs.Lists.{IsMarked}
+use Rattle.conley_lists.specs.Lists.{IsMarked}
 use Rattle.conley_order.specs.ClassRows.{word_bit}
 use Rattle.conley_order.proofs.words.words_of.Given as goal
 

@@ -8,12 +8,14 @@ use Rattle.conley_reduction.proofs.renumbering.renumbered.Goals as goal
 pub bases_of-requires : goal.bases_of-requires
 bases_of-requires g c =
     let lists = rw c.deref.ensures.value at c.in_ok-numbers.ensures in
-    rw c.as_slice-kept.ensures.value (numbers-within (generators_of c.args.graded.now) c.args.work.left.items c.args.work.w.items c.args.work.phi.items c.args.work.psi.items c.args.work.gamma.items c.requires.work c.in_ok-numbers.numbers.items lists)
+    rw c.as_slice-kept.ensures.value (numbers-within (generators_of c.args.graded.now) c.args.work.left.items c.args.work.w.items c.args.work.phi.items
+    c.args.work.psi.items c.args.work.gamma.items c.requires.work c.in_ok-numbers.numbers.items lists)
 
 pub dims_of-requires : goal.dims_of-requires
 dims_of-requires g c =
     let lists = rw c.deref.ensures.value at c.in_ok-numbers.ensures in
-    rw c.as_slice-kept.ensures.value (numbers-within (generators_of c.args.graded.now) c.args.work.left.items c.args.work.w.items c.args.work.phi.items c.args.work.psi.items c.args.work.gamma.items c.requires.work c.in_ok-numbers.numbers.items lists)
+    rw c.as_slice-kept.ensures.value (numbers-within (generators_of c.args.graded.now) c.args.work.left.items c.args.work.w.items c.args.work.phi.items
+    c.args.work.psi.items c.args.work.gamma.items c.requires.work c.in_ok-numbers.numbers.items lists)
 
 pub part_of-requires-clause-rows_ascend : goal.part_of-requires-clause-rows_ascend
 part_of-requires-clause-rows_ascend g c = rw c.as_slice-kept.ensures.value (rw c.deref.ensures.value at c.in_ok-numbers.ensures).ascending
@@ -21,13 +23,15 @@ part_of-requires-clause-rows_ascend g c = rw c.as_slice-kept.ensures.value (rw c
 pub part_of-requires-clause-rows_few : goal.part_of-requires-clause-rows_few
 part_of-requires-clause-rows_few g c =
     let lists = rw c.deref.ensures.value at c.in_ok-numbers.ensures in
-    let few = numbers-few (generators_of c.args.graded.now) c.args.work.left.items c.args.work.w.items c.args.work.phi.items c.args.work.psi.items c.args.work.gamma.items c.requires.work c.in_ok-numbers.numbers.items lists in
+    let few = numbers-few (generators_of c.args.graded.now) c.args.work.left.items c.args.work.w.items c.args.work.phi.items c.args.work.psi.items
+    c.args.work.gamma.items c.requires.work c.in_ok-numbers.numbers.items lists in
     rw c.as_slice-kept.ensures.value (omega (arith, few, c.requires.few))
 
 pub part_of-requires-clause-places_within : goal.part_of-requires-clause-places_within
 part_of-requires-clause-places_within g c =
     let lists = rw c.deref.ensures.value at c.in_ok-numbers.ensures in
-    rw (c.as_slice-kept.ensures.value, c.count-n.ensures.count) (numbers-within (generators_of c.args.graded.now) c.args.work.left.items c.args.work.w.items c.args.work.phi.items c.args.work.psi.items c.args.work.gamma.items c.requires.work c.in_ok-numbers.numbers.items lists)
+    rw (c.as_slice-kept.ensures.value, c.count-n.ensures.count) (numbers-within (generators_of c.args.graded.now) c.args.work.left.items c.args.work.w.items
+    c.args.work.phi.items c.args.work.psi.items c.args.work.gamma.items c.requires.work c.in_ok-numbers.numbers.items lists)
 
 pub part_of-requires-2-clause-rows_ascend : goal.part_of-requires-2-clause-rows_ascend
 part_of-requires-2-clause-rows_ascend g c = rw c.as_slice-all.ensures.value c.in_ok-every.ensures.ascending
@@ -35,7 +39,8 @@ part_of-requires-2-clause-rows_ascend g c = rw c.as_slice-all.ensures.value c.in
 pub part_of-requires-2-clause-places_within : goal.part_of-requires-2-clause-places_within
 part_of-requires-2-clause-places_within g c =
     let lists = rw c.deref.ensures.value at c.in_ok-numbers.ensures in
-    rw (c.as_slice-kept.ensures.value, c.count-n.ensures.count) (numbers-within (generators_of c.args.graded.now) c.args.work.left.items c.args.work.w.items c.args.work.phi.items c.args.work.psi.items c.args.work.gamma.items c.requires.work c.in_ok-numbers.numbers.items lists)
+    rw (c.as_slice-kept.ensures.value, c.count-n.ensures.count) (numbers-within (generators_of c.args.graded.now) c.args.work.left.items c.args.work.w.items
+    c.args.work.phi.items c.args.work.psi.items c.args.work.gamma.items c.requires.work c.in_ok-numbers.numbers.items lists)
 
 pub part_of-requires-3-clause-rows_ascend : goal.part_of-requires-3-clause-rows_ascend
 part_of-requires-3-clause-rows_ascend g c = rw c.as_slice-all.ensures.value c.in_ok-every.ensures.ascending
@@ -43,20 +48,24 @@ part_of-requires-3-clause-rows_ascend g c = rw c.as_slice-all.ensures.value c.in
 pub part_of-requires-3-clause-places_within : goal.part_of-requires-3-clause-places_within
 part_of-requires-3-clause-places_within g c =
     let lists = rw c.deref.ensures.value at c.in_ok-numbers.ensures in
-    rw (c.as_slice-kept.ensures.value, c.count-n.ensures.count) (numbers-within (generators_of c.args.graded.now) c.args.work.left.items c.args.work.w.items c.args.work.phi.items c.args.work.psi.items c.args.work.gamma.items c.requires.work c.in_ok-numbers.numbers.items lists)
+    rw (c.as_slice-kept.ensures.value, c.count-n.ensures.count) (numbers-within (generators_of c.args.graded.now) c.args.work.left.items c.args.work.w.items
+    c.args.work.phi.items c.args.work.psi.items c.args.work.gamma.items c.requires.work c.in_ok-numbers.numbers.items lists)
 
 pub transpose-requires : goal.transpose-requires
 transpose-requires g c =
     let lists = rw c.deref.ensures.value at c.in_ok-numbers.ensures in
-    let few = numbers-few (generators_of c.args.graded.now) c.args.work.left.items c.args.work.w.items c.args.work.phi.items c.args.work.psi.items c.args.work.gamma.items c.requires.work c.in_ok-numbers.numbers.items lists in
+    let few = numbers-few (generators_of c.args.graded.now) c.args.work.left.items c.args.work.w.items c.args.work.phi.items c.args.work.psi.items
+    c.args.work.gamma.items c.requires.work c.in_ok-numbers.numbers.items lists in
     rw (c.in_ok-psi_rows.ensures.table.columns, c.as_slice-kept.ensures.value) (omega (arith, few, c.requires.few))
 
 pub new-complex-requires : goal.new-complex-requires
 new-complex-requires g c =
     let s = c.args.graded.now in
     rw (c.field-field.ensures, c.grading.ensures)
-    (renumbered-filtered (g.met.F.Field.is_field s.field) _ _ s.base s.dims s.matrix c.count-n.ensures.filtered c.args.work.left.items c.args.work.w.items c.args.work.phi.items c.args.work.psi.items c.args.work.gamma.items
-    c.requires.work c.requires.strict c.as_slice-kept.result.now c.as_slice-all.result.now c.in_ok-base.base.items c.in_ok-dims.dims.items c.in_ok-matrix.matrix c.in_ok-phi.phi c.in_ok-psi.psi c.in_ok-gamma2.gamma2 c.in_ok-gamma.gamma (record {
+    (renumbered-filtered (g.met.F.Field.is_field s.field) _ _ s.base s.dims s.matrix c.count-n.ensures.filtered c.args.work.left.items c.args.work.w.items
+    c.args.work.phi.items c.args.work.psi.items c.args.work.gamma.items
+    c.requires.work c.requires.strict c.as_slice-kept.result.now c.as_slice-all.result.now c.in_ok-base.base.items c.in_ok-dims.dims.items
+    c.in_ok-matrix.matrix c.in_ok-phi.phi c.in_ok-psi.psi c.in_ok-gamma2.gamma2 c.in_ok-gamma.gamma (record {
       lists = rw c.as_slice-kept.ensures.value (rw c.deref.ensures.value at c.in_ok-numbers.ensures);
       all_count = ap length c.as_slice-all.ensures.value ∙ c.in_ok-every.ensures.count ∙ c.count-n.ensures.count;
       all_items = rw c.as_slice-all.ensures.value (rw c.count-n.ensures.count at c.in_ok-every.ensures.items);
@@ -82,8 +91,10 @@ pub returns : goal.returns
 returns g c =
     let s = c.args.graded.now in
     let work = c.args.work in
-    let all_count : length c.as_slice-all.result.now ≡ length s.base = ap length c.as_slice-all.ensures.value ∙ c.in_ok-every.ensures.count ∙ c.count-n.ensures.count in
-    let parts : AreParts (g.F.Field.arithmetic s.field) s.base s.dims work.left.items work.w.items work.phi.items work.psi.items c.as_slice-kept.result.now c.as_slice-all.result.now c.in_ok-base.base.items c.in_ok-dims.dims.items
+    let all_count : length c.as_slice-all.result.now ≡ length s.base = ap length c.as_slice-all.ensures.value ∙ c.in_ok-every.ensures.count
+    ∙ c.count-n.ensures.count in
+    let parts : AreParts (g.F.Field.arithmetic s.field) s.base s.dims work.left.items work.w.items work.phi.items work.psi.items c.as_slice-kept.result.now
+    c.as_slice-all.result.now c.in_ok-base.base.items c.in_ok-dims.dims.items
     c.in_ok-matrix.matrix c.in_ok-phi.phi c.in_ok-psi.psi c.in_ok-gamma2.gamma2 work.gamma.items c.in_ok-gamma.gamma = record {
       lists = rw c.as_slice-kept.ensures.value (rw c.deref.ensures.value at c.in_ok-numbers.ensures);
       all_count = all_count;
@@ -105,7 +116,8 @@ returns g c =
     rw c.new-complex.ensures (record {
       field = c.field-field.ensures;
       grading = c.grading.ensures;
-      strict = renumbered-strict (g.met.F.Field.is_field s.field) _ _ s.base s.dims s.matrix c.count-n.ensures.filtered work.left.items work.w.items work.phi.items work.psi.items work.gamma.items
+      strict = renumbered-strict (g.met.F.Field.is_field s.field) _ _ s.base s.dims s.matrix c.count-n.ensures.filtered work.left.items work.w.items
+          work.phi.items work.psi.items work.gamma.items
           c.requires.work c.requires.strict _ _ _ _ _ _ _ _ _ parts;
       tables = record {
         phi = subst (λ (m : ℕ). IsTable (g.F.Field.arithmetic s.field) m (length c.in_ok-base.base.items) c.in_ok-phi.phi) all_count
@@ -113,9 +125,12 @@ returns g c =
         psi = subst (λ (m : ℕ). IsTable (g.F.Field.arithmetic s.field) (length c.in_ok-base.base.items) m c.in_ok-psi.psi) all_count
             (subst (λ (n : ℕ). IsTable (g.F.Field.arithmetic s.field) n (length c.as_slice-all.result.now) c.in_ok-psi.psi) base_count parts.psi_table);
         gamma = subst (λ (n : ℕ). IsTable (g.F.Field.arithmetic s.field) n (length s.base) c.in_ok-gamma.gamma) gamma.count
-            (subst (λ (n : ℕ). IsTable (g.F.Field.arithmetic s.field) (length work.gamma.items) n c.in_ok-gamma.gamma) c.count-n.ensures.count (turned.table (g.F.Field.arithmetic s.field) gamma.codes));
-        gamma2 = subst (λ (n : ℕ). IsTable (g.F.Field.arithmetic s.field) n n c.in_ok-gamma2.gamma2) base_count (c.in_ok-gamma2.ensures.table (g.F.Field.arithmetic s.field));
+            (subst (λ (n : ℕ). IsTable (g.F.Field.arithmetic s.field) (length work.gamma.items) n c.in_ok-gamma.gamma) c.count-n.ensures.count
+            (turned.table (g.F.Field.arithmetic s.field) gamma.codes));
+        gamma2 = subst (λ (n : ℕ). IsTable (g.F.Field.arithmetic s.field) n n c.in_ok-gamma2.gamma2) base_count
+            (c.in_ok-gamma2.ensures.table (g.F.Field.arithmetic s.field));
       };
-      reduction = renumbered-reduction (g.met.F.Field.is_field s.field) _ _ s.base s.dims s.matrix c.count-n.ensures.filtered work.left.items work.w.items work.phi.items work.psi.items work.gamma.items
+      reduction = renumbered-reduction (g.met.F.Field.is_field s.field) _ _ s.base s.dims s.matrix c.count-n.ensures.filtered work.left.items work.w.items
+          work.phi.items work.psi.items work.gamma.items
           c.requires.work c.requires.strict _ _ _ _ _ _ _ _ _ parts;
     })

@@ -1,7 +1,8 @@
 use Rattle.std.proofs.Common.{ℕ, List, Vec, subst, sym}
 use Rattle.std.specs.declared.alloc.Global.{Global}
-use Rattle.conley_walk.specs.Lists.{items_of, IsDigraph}
+use Rattle.conley_lists.specs.Lists.{items_of, IsDigraph}
 use Rattle.conley_space_tests.proofs.walk_tests.a_search_marks_what_is_reached.Goals as goal
 
 pub reached-requires-clause-digraph : goal.reached-requires-clause-digraph
-reached-requires-clause-digraph g c = subst (λ (lists : List (Vec ℕ Global)). IsDigraph (items_of lists)) (sym c.deref.ensures.value) c.in_ok-lists.ensures.digraph
+reached-requires-clause-digraph g c = subst (λ (lists : List (Vec ℕ Global)). IsDigraph (items_of lists)) (sym c.deref.ensures.value)
+    c.in_ok-lists.ensures.digraph

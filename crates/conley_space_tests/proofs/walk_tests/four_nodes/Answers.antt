@@ -1,6 +1,6 @@
 use Rattle.std.proofs.Common.{ℕ, List, Vec, subst}
 use Rattle.std.specs.declared.alloc.Global.{Global}
-use Rattle.conley_walk.specs.Lists.{items_of, IsDigraph}
+use Rattle.conley_lists.specs.Lists.{items_of, IsDigraph}
 use Rattle.conley_space_tests.proofs.walk_tests.four_nodes.Goals as goal
 
 pub returns-clause-digraph : goal.returns-clause-digraph

@@ -31,7 +31,8 @@ returns-in_err-put_numbers-clause-err g c =
     let told = c.args.told.now in
     let word = c.args.word.now in
     let P : List ℕ → Type 0 = λ t. GainsPrefix (g.S.Sink.written c.args.sink.now) t (g.S.Sink.written c.put_numbers.new.sink) in
-    let Q : List ℕ → Type 0 = λ ns. GainsPrefix (g.S.Sink.written c.put_name.new.sink) (flat_map (λ n. 32 ∷ decimal n) ns) (g.S.Sink.written c.put_numbers.new.sink) in
+    let Q : List ℕ → Type 0 = λ ns. GainsPrefix (g.S.Sink.written c.put_name.new.sink) (flat_map (λ n. 32 ∷ decimal n) ns)
+    (g.S.Sink.written c.put_numbers.new.sink) in
     rw (p.1) (subst P (told_line word (told.letter ∷ decimal told.number) (kept told))
     (GainsPrefix-after _ _ _ (name_of word told) (numbers_of told ++ 10 ∷ []) c.in_ok-put_name.ensures.ok
     (GainsPrefix-before _ _ (numbers_of told) (10 ∷ []) (subst Q c.kept.ensures c.in_err-put_numbers.ensures.err))))

@@ -12,7 +12,10 @@ loop-x-preserved c =
     let before = map f (take i c.args.cells.now) in
     let here = get_or c.args.cells.now i 0 in
     record {
-      text = (c.in_ok-push_word.ensures ∙ ap (λ t. c.loop-x.text.items ++ behind c.loop-x.some t) (c.as_bytes.ensures.value ∙ c.label.ensures.label)) ∙ ap (λ t. t ++ behind c.loop-x.some (f here)) c.loop-x.invariant.text ∙ ap (λ b. (old ++ joined c.args.some before) ++ behind b (f here)) c.loop-x.invariant.some
-          ∙ append_assoc old (joined c.args.some before) (behind (c.args.some || is_some before) (f here)) ∙ ap (λ t. old ++ t) (sym (joined_more f c.args.cells.now i 0 c.args.some c.loop-x-test.true));
+      text = (c.in_ok-push_word.ensures ∙ ap (λ t. c.loop-x.text.items ++ behind c.loop-x.some t) (c.as_bytes.ensures.value ∙ c.label.ensures.label))
+          ∙ ap (λ t. t ++ behind c.loop-x.some (f here)) c.loop-x.invariant.text ∙ ap (λ b. (old ++ joined c.args.some before) ++ behind b (f here))
+          c.loop-x.invariant.some
+          ∙ append_assoc old (joined c.args.some before) (behind (c.args.some || is_some before) (f here))
+          ∙ ap (λ t. old ++ t) (sym (joined_more f c.args.cells.now i 0 c.args.some c.loop-x-test.true));
       some = some_more f c.args.cells.now i c.args.some c.loop-x-test.true;
     }

@@ -6,7 +6,8 @@ use Rattle.conley_texts.proofs.JoinLemmas.{line_more, some_parts, written_at}
 use Rattle.conley_texts.proofs.words.push_line.Goals as goal
 
 pub push_words-requires : goal.push_words-requires
-push_words-requires c = let item = c.part-item.result in subst IsWritten (sym c.part-item.is) (written_at c.args.words.now c.loop-part.part-index item c.loop-part-test.true c.requires)
+push_words-requires c = let item = c.part-item.result in subst IsWritten (sym c.part-item.is)
+    (written_at c.args.words.now c.loop-part.part-index item c.loop-part-test.true c.requires)
 
 pub loop-part-preserved : goal.loop-part-preserved
 loop-part-preserved c =
@@ -15,9 +16,12 @@ loop-part-preserved c =
     let item = c.part-item.result in
     let before = flat_map words_of (take i c.args.words.now) in
     record {
-      text = c.in_ok-some.ensures.text ∙ ap (λ t. t ++ joined c.loop-part.some (words_of item)) c.loop-part.invariant.text ∙ ap (λ b. (old ++ joined false before) ++ joined b (words_of item)) c.loop-part.invariant.some
-          ∙ append_assoc old (joined false before) (joined (is_some before) (words_of item)) ∙ ap (λ p. old ++ (joined false before ++ joined (is_some before) (words_of p))) c.part-item.is
+      text = c.in_ok-some.ensures.text ∙ ap (λ t. t ++ joined c.loop-part.some (words_of item)) c.loop-part.invariant.text
+          ∙ ap (λ b. (old ++ joined false before) ++ joined b (words_of item)) c.loop-part.invariant.some
+          ∙ append_assoc old (joined false before) (joined (is_some before) (words_of item))
+          ∙ ap (λ p. old ++ (joined false before ++ joined (is_some before) (words_of p))) c.part-item.is
           ∙ ap (λ t. old ++ t) (sym (line_more words_of c.args.words.now i item c.loop-part-test.true));
-      some = c.in_ok-some.ensures.some ∙ ap (λ b. b || is_some (words_of item)) c.loop-part.invariant.some ∙ ap (λ p. is_some before || is_some (words_of p)) c.part-item.is
+      some = c.in_ok-some.ensures.some ∙ ap (λ b. b || is_some (words_of item)) c.loop-part.invariant.some
+          ∙ ap (λ p. is_some before || is_some (words_of p)) c.part-item.is
           ∙ sym (some_parts words_of c.args.words.now i item c.loop-part-test.true);
     }

@@ -12,7 +12,9 @@ loop-number-preserved c =
     let before = map f (take i c.args.numbers.now) in
     let here = get_or c.args.numbers.now i 0 in
     record {
-      text = c.in_ok-push_number.ensures ∙ ap (λ t. t ++ behind c.loop-number.some (f here)) c.loop-number.invariant.text ∙ ap (λ b. (old ++ joined c.args.some before) ++ behind b (f here)) c.loop-number.invariant.some
-          ∙ append_assoc old (joined c.args.some before) (behind (c.args.some || is_some before) (f here)) ∙ ap (λ t. old ++ t) (sym (joined_more f c.args.numbers.now i 0 c.args.some c.loop-number-test.true));
+      text = c.in_ok-push_number.ensures ∙ ap (λ t. t ++ behind c.loop-number.some (f here)) c.loop-number.invariant.text
+          ∙ ap (λ b. (old ++ joined c.args.some before) ++ behind b (f here)) c.loop-number.invariant.some
+          ∙ append_assoc old (joined c.args.some before) (behind (c.args.some || is_some before) (f here))
+          ∙ ap (λ t. old ++ t) (sym (joined_more f c.args.numbers.now i 0 c.args.some c.loop-number-test.true));
       some = some_more f c.args.numbers.now i c.args.some c.loop-number-test.true;
     }

@@ -14,6 +14,7 @@ returns-in-Ok-Err-Rejected-clause-err c =
     let part_of = c.args.problem.now.partition in
     let reason = c.in-Ok-Err-Rejected.reason in
     let rejected = c.in-Ok-Err-Rejected.ensures.rejected reason (cc) in
-    let in_full = subst (λ (F : Arithmetic). (C : Certificate) × Reads F complex.1 c.args.bytes.now C × (failing (problem_of F complex.1 part_of) C ≡ Some reason) × ¬ IsAnalysis (problem_of F complex.1 part_of) C)
+    let in_full = subst (λ (F : Arithmetic). (C : Certificate) × Reads F complex.1 c.args.bytes.now C
+    × (failing (problem_of F complex.1 part_of) C ≡ Some reason) × ¬ IsAnalysis (problem_of F complex.1 part_of) C)
     (arithmetic_of-residues complex.0) rejected in
     inr (in_full.0, in_full.1, inr (in_full.3, (reason, in_full.2, refl)))

@@ -2,8 +2,8 @@
 use Rattle.std.proofs.Common.{arith, [], ◌≡◌, ◌<◌, ◌++◌, ℕ, List, map, length, get_or, sym, ◌∙◌, ap, subst}
 use Rattle.std.specs.Prelude.{All}
 use Rattle.std.proofs.lemmas.List.{take_all, append-nil}
-use Rattle.conley_walk.specs.Lists.{items_of}
-use Rattle.conley_walk.proofs.ListLemmas.{row_of, length-items_of, All-from_contained}
+use Rattle.conley_lists.specs.Lists.{items_of}
+use Rattle.conley_lists.proofs.ListLemmas.{row_of, length-items_of, All-from_contained}
 use Rattle.conley_transitions.specs.Classes.{AreRecurrenceClasses}
 use Rattle.conley_texts.specs.Line.{line, text_of}
 use Rattle.conley_texts.specs.Words.{labels_of}
@@ -18,7 +18,13 @@ push_line-requires c =
     let faces = c.faces-faces.ensures.faces in (
       subst (λ (l : List ℕ). All (λ x. x < length c.args.problem.now.complex.1.dims) l) (sym is)
           (All-from_contained (λ x. x < length c.args.problem.now.complex.1.dims) (get_or (items_of classes) c.loop-k.k []) (λ x h.
-          omega (arith, c.in_ok-classes.ensures.cells c.loop-k.k x h, c.requires.field.count, c.requires.laws.complex.faces_count, c.requires.laws.complex.dims_count))),
+          omega (
+            arith,
+            c.in_ok-classes.ensures.cells c.loop-k.k x h,
+            c.requires.field.count,
+            c.requires.laws.complex.faces_count,
+            c.requires.laws.complex.dims_count,
+          ))),
       tt,
     )
 
@@ -41,5 +47,6 @@ returns c =
     let classes = c.in_ok-classes.classes.items in
     let lines = λ (l : List (List ℕ)). text_of (map (labels_of c.args.problem.now.complex.1.labels) l) in
     let whole = take_all c.loop-k.k (items_of classes) (omega (arith, c.loop-k-test.false, c.len-k-end.ensures, length-items_of classes)) in
-    let same = subst (λ (f : List (List ℕ)). AreRecurrenceClasses f c.args.problem.now.partition (items_of classes)) c.faces-faces.ensures.faces c.in_ok-classes.ensures in
+    let same = subst (λ (f : List (List ℕ)). AreRecurrenceClasses f c.args.problem.now.partition (items_of classes)) c.faces-faces.ensures.faces
+    c.in_ok-classes.ensures in
     (items_of classes, same, c.loop-k.invariant ∙ ap lines whole)

@@ -1,5 +1,5 @@
 use Rattle.std.proofs.Common.{◌≡◌, map, take}
-use Rattle.conley_walk.specs.Lists.{items_of}
+use Rattle.conley_lists.specs.Lists.{items_of}
 use Rattle.conley_texts.specs.Line.{text_of}
 use Rattle.conley_texts.specs.Words.{labels_of}
 use Rattle.conley_tool.proofs.classes.classes_text.Given as goal

@@ -1,7 +1,7 @@
 use Rattle.std.proofs.Common.{arith, get_or, ap, subst, inl, inr}
 use Rattle.std.proofs.lemmas.List.Elements.{Contains-get_or}
-use Rattle.conley_walk.specs.Lists.{items_of}
-use Rattle.conley_walk.proofs.ListLemmas.{length-items_of}
+use Rattle.conley_lists.specs.Lists.{items_of}
+use Rattle.conley_lists.proofs.ListLemmas.{length-items_of}
 use Rattle.conley_field.specs.Arithmetic.{Arithmetic}
 use Rattle.conley_input.specs.ProblemMeaning.{meaning_of}
 use Rattle.conley_input.proofs.CellLemmas.{arithmetic_of-residues}
@@ -18,13 +18,20 @@ pub returns-in-Err-TooManyMorse-clause-err : goal.returns-in-Err-TooManyMorse-cl
 returns-in-Err-TooManyMorse-clause-err c =
     let problem = meaning_of c.args.problem.now in
     let many = c.in-Err-TooManyMorse.ensures.too_many c.in-Err-TooManyMorse.count (cc) in
-    let sets = subst (λ (F : Arithmetic). HasTooManySets F problem.complex problem.part_of c.in-Err-TooManyMorse.count) (arithmetic_of-residues c.args.problem.now.complex.0) many in
+    let sets = subst (λ (F : Arithmetic). HasTooManySets F problem.complex problem.part_of c.in-Err-TooManyMorse.count)
+    (arithmetic_of-residues c.args.problem.now.complex.0) many in
     inl (c.in-Err-TooManyMorse.count, sets, ap (λ n. ends (Refused (fault.Morse n))) c.in-Err-TooManyMorse.count-is)
 
 pub morse_text-requires-clause-cells : goal.morse_text-requires-clause-cells
 morse_text-requires-clause-cells c = λ m lt k d lt'.
     let sets = items_of c.in-Ok.found.sets.items in
-    let at = (c.in-Ok.ensures.graph.sets.classes.all (get_or (set_at sets m) k d)).0 (m, (omega (arith, lt, length-items_of c.in-Ok.found.sets.items), Contains-get_or (set_at sets m) k d lt')) in
+    let at = (c.in-Ok.ensures.graph.sets.classes.all (get_or (set_at sets m) k d)).0 (
+      m,
+      (
+        omega (arith, lt, length-items_of c.in-Ok.found.sets.items),
+        Contains-get_or (set_at sets m) k d lt',
+      ),
+    ) in
     omega (arith, at.0, c.requires.field.count, c.requires.laws.complex.faces_count, c.requires.laws.complex.dims_count)
 
 pub returns-clause-ok : goal.returns-clause-ok
@@ -32,5 +39,6 @@ returns-clause-ok c =
     let found = c.in-Ok.found in
     let problem = meaning_of c.args.problem.now in
     let graph : IsMorseGraphOf problem (graph_of found) =
-    subst (λ (F : Arithmetic). IsConleyMorseGraph F problem.complex problem.part_of (items_of found.sets.items) (items_of found.numbers.items) found.order.items) (arithmetic_of-residues c.args.problem.now.complex.0) c.in-Ok.ensures.graph in
+    subst (λ (F : Arithmetic). IsConleyMorseGraph F problem.complex problem.part_of (items_of found.sets.items) (items_of found.numbers.items)
+    found.order.items) (arithmetic_of-residues c.args.problem.now.complex.0) c.in-Ok.ensures.graph in
     inr (graph_of found, graph, omega (arith, length-items_of found.sets.items, c.in-Ok.ensures.few), ap prints c.in_ok-morse_text.ensures)

@@ -13,7 +13,9 @@ pub loop-m-preserved : goal.loop-m-preserved
 loop-m-preserved c =
     let words = set_words c.args.complex.now.1.labels (graph_of c.args.found.now) in
     let m : ℕ = c.loop-m.m in
-    let more = ap text_of (ap (map words) (range_more m) ∙ map-append words (range_with_len 0 m) (m ∷ [])) ∙ text_of-append (map words (range_with_len 0 m)) (words m ∷ []) ∙ ap (λ t. text_of (map words (range_with_len 0 m)) ++ t) (append-nil (line (words m))) in
+    let more = ap text_of (ap (map words) (range_more m) ∙ map-append words (range_with_len 0 m) (m ∷ []))
+    ∙ text_of-append (map words (range_with_len 0 m)) (words m ∷ []) ∙ ap (λ t. text_of (map words (range_with_len 0 m)) ++ t)
+    (append-nil (line (words m))) in
     c.in_ok-push_set.ensures ∙ ap (λ (t : List ℕ). t ++ line (words m)) c.loop-m.invariant ∙ sym more
 
 pub loop-pair-preserved : goal.loop-pair-preserved

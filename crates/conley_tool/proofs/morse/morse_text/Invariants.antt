@@ -9,4 +9,5 @@ abbrev pub invariant-loop-m : goal.invariant-loop-m
 invariant-loop-m l = l.text.items ≡ text_of (map (set_words l.complex.1.labels (graph_of l.found)) (range_with_len 0 l.m))
 
 abbrev pub invariant-loop-pair : goal.invariant-loop-pair
-invariant-loop-pair l = l.text.items ≡ text_of (map (set_words l.complex.1.labels (graph_of l.found)) (range_with_len 0 (length l.found.sets.items)) ++ map order_words (take l.pair-index l.found.order.items))
+invariant-loop-pair l = l.text.items ≡ text_of (map (set_words l.complex.1.labels (graph_of l.found)) (range_with_len 0 (length l.found.sets.items)) ++ map
+    order_words (take l.pair-index l.found.order.items))

@@ -1,5 +1,5 @@
 use Rattle.std.proofs.Common.{arith, ◌≤◌, ◌∙◌, length, inl, inr, ap, subst}
-use Rattle.conley_walk.proofs.ListLemmas.{length-items_of}
+use Rattle.conley_lists.proofs.ListLemmas.{length-items_of}
 use Rattle.conley_field.specs.AnyField.{arithmetic_of}
 use Rattle.conley_field.specs.Arithmetic.{Arithmetic}
 use Rattle.conley_input.specs.ProblemMeaning.{meaning_of}
@@ -20,14 +20,16 @@ pub returns-in-Err-TooManyMorse-clause-err : goal.returns-in-Err-TooManyMorse-cl
 returns-in-Err-TooManyMorse-clause-err c =
     let problem = meaning_of c.args.problem.now in
     let many = c.in-Err-TooManyMorse.ensures.too_many c.in-Err-TooManyMorse.count (cc) in
-    let sets = subst (λ (F : Arithmetic). HasTooManySets F problem.complex problem.part_of c.in-Err-TooManyMorse.count) (arithmetic_of-residues c.args.problem.now.complex.0) many in
+    let sets = subst (λ (F : Arithmetic). HasTooManySets F problem.complex problem.part_of c.in-Err-TooManyMorse.count)
+    (arithmetic_of-residues c.args.problem.now.complex.0) many in
     inl (c.in-Err-TooManyMorse.count, sets, ap (λ n. ends (Refused (fault.Morse n))) c.in-Err-TooManyMorse.count-is)
 
 pub returns-clause-ok : goal.returns-clause-ok
 returns-clause-ok c =
     let problem = meaning_of c.args.problem.now in
     let C = certificate.meaning_of c.in-Ok.certificate in
-    let analysis = subst (λ (F : Arithmetic). IsAnalysis (problem_of F problem.complex problem.part_of) C) (arithmetic_of-residues c.args.problem.now.complex.0) c.in-Ok.ensures.analysis in
+    let analysis = subst (λ (F : Arithmetic). IsAnalysis (problem_of F problem.complex problem.part_of) C)
+    (arithmetic_of-residues c.args.problem.now.complex.0) c.in-Ok.ensures.analysis in
     let few : length C.morse ≤ 2000 = omega (arith, c.in-Ok.ensures.few, length-items_of c.in-Ok.certificate.morse.items) in
     inr (C, analysis, few, ap prints (c.in_ok-summary_text.ensures ∙ ap (λ s. text_of (summary_lines s)) c.of-summary.ensures))
 

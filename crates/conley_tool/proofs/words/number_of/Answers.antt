@@ -7,11 +7,13 @@ loop-number-init c = record { found = number_of-from c.args.word.now; some = ome
 
 pub returns-then-says-clause-number : goal.returns-then-says-clause-number
 returns-then-says-clause-number c =
-    sym (c.loop-number.invariant.found ∙ found_here c.args.word.now c.loop-number.number (omega (arith, c.loop-number-test.true)) (sym c.says.ensures ∙ c.if-says.true))
+    sym (c.loop-number.invariant.found ∙ found_here c.args.word.now c.loop-number.number (omega (arith, c.loop-number-test.true))
+    (sym c.says.ensures ∙ c.if-says.true))
 
 pub loop-number-preserved : goal.loop-number-preserved
 loop-number-preserved c = record {
-  found = c.loop-number.invariant.found ∙ found_later c.args.word.now c.loop-number.number (omega (arith, c.loop-number-test.true)) (sym c.says.ensures ∙ c.if-says.false);
+  found = c.loop-number.invariant.found ∙ found_later c.args.word.now c.loop-number.number (omega (arith, c.loop-number-test.true))
+      (sym c.says.ensures ∙ c.if-says.false);
   some = omega (arith, c.loop-number.invariant.some);
 }
 

@@ -1,11 +1,11 @@
 use Rattle.std.proofs.Common.{arith, List, ℕ, false}
-use Rattle.conley_walk.specs.Lists.{items_of}
-use Rattle.conley_transitions.specs.Field.{field_by, IsField}
+use Rattle.conley_lists.specs.Lists.{items_of}
+use Rattle.conley_transitions.specs.Flow.{flow_by, IsFlow}
 use Rattle.conley_transitions.proofs.ClassLemmas.{gathered_classes}
 use Rattle.conley_transitions.proofs.classes.recurrence_classes.Goals as goal
 
 pub gathered-requires-clause-few : goal.gathered-requires-clause-few
-gathered-requires-clause-few c = rw c.deref.ensures.value (omega (arith, c.in_ok-class_of.ensures.classes.count, c.count-nodes.ensures.heads.few))
+gathered-requires-clause-few c = rw c.deref.ensures.value (omega (arith, c.in_ok-class_of.ensures.classes.count, c.count-heads.ensures.heads.few))
 
 pub gathered-requires-clause-in_order : goal.gathered-requires-clause-in_order
 gathered-requires-clause-in_order c =
@@ -15,8 +15,9 @@ gathered-requires-clause-in_order c =
 pub returns : goal.returns
 returns c =
     let faces = c.args.faces.now in
-    let field = field_by faces c.args.partition.now (λ p. false) in
-    let ok : IsField field = record { digraph = c.count-cells.ensures.order.digraph; parts = c.requires.count } in
+    let flow = flow_by faces c.args.partition.now (λ p. false) in
+    let ok : IsFlow flow = record { digraph = c.count-order.ensures.order.digraph; parts = c.requires.count } in
     let steps = c.in_ok-digraph.ensures.steps in
     let reach = c.in_ok-digraph.ensures.reach in
-    gathered_classes field ok c.in_ok-digraph.digraph (omega (arith, steps.count, c.requires.count)) reach c.in_ok-class_of.class_of.items (items_of c.in_ok-classes.classes.items) c.in_ok-class_of.ensures.classes (rw c.deref.ensures.value at c.in_ok-classes.ensures)
+    gathered_classes flow ok c.in_ok-digraph.digraph (omega (arith, steps.count, c.requires.count)) reach c.in_ok-class_of.class_of.items
+    (items_of c.in_ok-classes.classes.items) c.in_ok-class_of.ensures.classes (rw c.deref.ensures.value at c.in_ok-classes.ensures)

@@ -1,4 +1,4 @@
-use Rattle.conley_walk.specs.Lists.{items_of}
+use Rattle.conley_lists.specs.Lists.{items_of}
 use Rattle.conley_transitions.specs.Making.{HasTransitionsSoFar}
 use Rattle.conley_transitions.proofs.steps.all_heads.Given as goal
 

@@ -11,7 +11,8 @@ returns c =
     let part_of = c.args.partition.now in
     let part = c.cells_of-part.result.now in
     let cell : c.args.x < length part_of = omega (arith, c.requires.cell, c.requires.field.count) in
-    let same : (y : ℕ) → Contains part y ↔ IsInPart part_of (get_or part_of c.args.x 0) y = subst (λ p. (y : ℕ) → Contains part y ↔ IsInPart part_of p y) c.part_of.ensures c.cells_of-part.ensures.cells in
+    let same : (y : ℕ) → Contains part y ↔ IsInPart part_of (get_or part_of c.args.x 0) y =
+    subst (λ p. (y : ℕ) → Contains part y ↔ IsInPart part_of p y) c.part_of.ensures c.cells_of-part.ensures.cells in
     let down = c.in_ok-heads.ensures.items ∙ c.direct.ensures.cells in
     elim c.if-part-gt1.branch [
       | then-part-gt1+in_ok-push w ↦

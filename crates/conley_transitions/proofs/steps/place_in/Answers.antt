@@ -1,7 +1,7 @@
 use Rattle.std.proofs.Common.{arith, ℕ, Err, inl, inr, get_or, ap}
 use Rattle.std.proofs.lemmas.Bool.{cases_eq, cases_lt}
 use Rattle.std.proofs.lemmas.List.Sorted.{searched}
-use Rattle.conley_walk.proofs.ListLemmas.{place_of, rises}
+use Rattle.conley_lists.proofs.ListLemmas.{place_of, rises}
 use Rattle.conley_transitions.proofs.steps.place_in.Goals as goal
 
 pub unreachable-requires : goal.unreachable-requires

@@ -1,5 +1,5 @@
-use Rattle.conley_walk.specs.Lists.{items_of}
-use Rattle.conley_walk.proofs.EntryLemmas.{none_out_of_range}
+use Rattle.conley_lists.specs.Lists.{items_of}
+use Rattle.conley_lists.proofs.EntryLemmas.{none_out_of_range}
 use Rattle.conley_transitions.specs.Step.{HasTransitions}
 use Rattle.conley_transitions.proofs.HeadLemmas.{transitions_all, transitions_ordered}
 use Rattle.conley_transitions.proofs.StepLemmas.{same_reach, transitions_digraph}
@@ -23,6 +23,6 @@ pub unreachable-requires : goal.unreachable-requires
 unreachable-requires c =
     let lists = items_of c.in_ok-lists.lists.items in
     let all = transitions_all c.args.faces.now c.args.partition.now lists c.requires.count c.in_ok-lists.ensures in
-    let digraph = transitions_digraph c.args.faces.now c.args.partition.now lists all c.count-count.ensures.order.digraph c.requires.count in
+    let digraph = transitions_digraph c.args.faces.now c.args.partition.now lists all c.count-order.ensures.order.digraph c.requires.count in
     let first = c.in-Err-Range.ensures.range c.in-Err-Range.field-0-0 (cc) in
     none_out_of_range lists digraph c.in-Err-Range.field-0-0 (rw c.deref.ensures.value at first)

@@ -1,6 +1,6 @@
 use Rattle.std.proofs.Common.{arith, ◌<◌, ◌+◌}
 use Rattle.std.proofs.lemmas.List.Elements.{All-push, All-weaker}
-use Rattle.conley_walk.proofs.ListLemmas.{increasing-push}
+use Rattle.conley_lists.proofs.ListLemmas.{increasing-push}
 use Rattle.conley_uses.proofs.surfaces.all_cells.Goals as goal
 
 pub loop-cell-preserved : goal.loop-cell-preserved
@@ -9,5 +9,6 @@ loop-cell-preserved c =
     let cell = c.loop-cell.cell in
     record {
       ascending = rw c.in_ok-push.ensures.items (increasing-push cells cell c.loop-cell.invariant.ascending c.loop-cell.invariant.below);
-      below = rw c.in_ok-push.ensures.items (All-push (λ x. x < cell + 1) cells cell (All-weaker (λ x. x < cell) (λ x. x < cell + 1) (λ x lt. omega arith) cells c.loop-cell.invariant.below) (omega arith));
+      below = rw c.in_ok-push.ensures.items (All-push (λ x. x < cell + 1) cells cell (All-weaker (λ x. x < cell) (λ x. x < cell + 1) (λ x lt. omega arith)
+          cells c.loop-cell.invariant.below) (omega arith));
     }

@@ -1,5 +1,5 @@
 -- a search from one start
-use Rattle.conley_walk.specs.Lists.{items_of}
+use Rattle.conley_lists.specs.Lists.{items_of}
 use Rattle.conley_walk.proofs.SearchLemmas.{reaches_from_one}
 use Rattle.conley_walk.proofs.search.reached.Goals as goal
 

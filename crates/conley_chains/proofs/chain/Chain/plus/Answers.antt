@@ -21,7 +21,8 @@ loop-i-preserved-then-p-q g c =
     let e = c.index-a-i.result in
     let below : c.loop-i.i < length a = c.next_place-p.ensures.within.0 (omega arith) in
     let here = first_place-drop a c.loop-i.i e below c.index-a-i.is in
-    let code : e.1 < (g.F.Field.arithmetic c.args.field.now).order = HasCodes-at (g.F.Field.arithmetic c.args.field.now) a c.loop-i.i e (rw c.entries-a.ensures.entries c.requires.codes) below c.index-a-i.is in
+    let code : e.1 < (g.F.Field.arithmetic c.args.field.now).order = HasCodes-at (g.F.Field.arithmetic c.args.field.now) a c.loop-i.i e
+    (rw c.entries-a.ensures.entries c.requires.codes) below c.index-a-i.is in
     sum_left (g.met.F.Field.is_field c.args.field.now) c.args.by a c.entries-b.result.now
     (rw c.entries-a.ensures.entries c.entries-a.ensures.chain) (rw c.entries-b.ensures.entries c.entries-b.ensures.chain)
     c.loop-i.i c.loop-i.j c.loop-i.sum c.put.new.self e c.loop-i.invariant below c.index-a-i.is (omega (arith, here, c.next_place-p.ensures.place)) code
@@ -53,13 +54,17 @@ loop-i-preserved g c =
     let level : c.next_place-p.result ≡ c.next_place-q.result = omega arith in
     let e_below : c.loop-i.i < length a = elim c.if-i-a.branch [
       | then-i-a w ↦ omega arith
-      | else-i-a+then-j-b w ↦ c.next_place-p.ensures.within.0 (let within : c.next_place-q.result < 2 ^ 32 = c.next_place-q.ensures.within.1 (omega arith) in omega arith)
+      | else-i-a+then-j-b w ↦ c.next_place-p.ensures.within.0 (let within : c.next_place-q.result < 2 ^ 32 = c.next_place-q.ensures.within.1 (omega arith) in
+          omega arith)
     ] in
-    let f_below : c.loop-i.j < length b = c.next_place-q.ensures.within.0 (let within : c.next_place-p.result < 2 ^ 32 = c.next_place-p.ensures.within.1 e_below in omega arith) in
+    let f_below : c.loop-i.j < length b = c.next_place-q.ensures.within.0 (let within : c.next_place-p.result < 2 ^ 32 =
+    c.next_place-p.ensures.within.1 e_below in omega arith) in
     let e_here = first_place-drop a c.loop-i.i e e_below c.index-a-i-else-q-p.is in
     let f_here = first_place-drop b c.loop-i.j f f_below c.index-b-j-else-q-p.is in
-    let e_fits : e.0 < 2 ^ 32 = (let within : c.next_place-p.result < 2 ^ 32 = c.next_place-p.ensures.within.1 e_below in omega (arith, e_here, c.next_place-p.ensures.place)) in
-    let f_fits : f.0 < 2 ^ 32 = (let within : c.next_place-q.result < 2 ^ 32 = c.next_place-q.ensures.within.1 f_below in omega (arith, f_here, c.next_place-q.ensures.place)) in
+    let e_fits : e.0 < 2 ^ 32 = (let within : c.next_place-p.result < 2 ^ 32 = c.next_place-p.ensures.within.1 e_below in
+    omega (arith, e_here, c.next_place-p.ensures.place)) in
+    let f_fits : f.0 < 2 ^ 32 = (let within : c.next_place-q.result < 2 ^ 32 = c.next_place-q.ensures.within.1 f_below in
+    omega (arith, f_here, c.next_place-q.ensures.place)) in
     sum_both (g.met.F.Field.is_field c.args.field.now) c.args.by a b
     (rw c.entries-a.ensures.entries c.entries-a.ensures.chain) (rw c.entries-b.ensures.entries c.entries-b.ensures.chain)
     c.loop-i.i c.loop-i.j c.loop-i.sum c.put-else-q-p.new.self e f c.loop-i.invariant

@@ -13,7 +13,16 @@ image-requires g t c κs within =
     let es = c.args.entries.now in
     let half = length c.args.entries.now / 2 in (
       omega (arith, length-take half es),
-      (within, (IsChain-take half es c.requires.chain, (All-take (λ (e : ℕ × ℕ). e.0 < column_count c.args.self.now) half es c.requires.fits, (c.requires.codes, All-take (λ (e : ℕ × ℕ). e.1 < (g.F.Field.arithmetic c.args.field.now).order) half es c.requires.chain_codes)))),
+      (
+        within,
+        (
+          IsChain-take half es c.requires.chain,
+          (
+            All-take (λ (e : ℕ × ℕ). e.0 < column_count c.args.self.now) half es c.requires.fits,
+            (c.requires.codes, All-take (λ (e : ℕ × ℕ). e.1 < (g.F.Field.arithmetic c.args.field.now).order) half es c.requires.chain_codes),
+          ),
+        ),
+      ),
     )
 
 pub image-requires-2 : goal.image-requires-2
@@ -27,8 +36,13 @@ image-requires-2 g t c κs within =
         (
           IsChain-take (length es - half) rest (IsChain-drop half es c.requires.chain),
           (
-            All-take (λ (e : ℕ × ℕ). e.0 < column_count c.args.self.now) (length es - half) rest (All-drop (λ (e : ℕ × ℕ). e.0 < column_count c.args.self.now) half es c.requires.fits),
-            (c.requires.codes, All-take (λ (e : ℕ × ℕ). e.1 < (g.F.Field.arithmetic c.args.field.now).order) (length es - half) rest (All-drop (λ (e : ℕ × ℕ). e.1 < (g.F.Field.arithmetic c.args.field.now).order) half es c.requires.chain_codes)),
+            All-take (λ (e : ℕ × ℕ). e.0 < column_count c.args.self.now) (length es - half) rest
+                (All-drop (λ (e : ℕ × ℕ). e.0 < column_count c.args.self.now) half es c.requires.fits),
+            (
+              c.requires.codes,
+              All-take (λ (e : ℕ × ℕ). e.1 < (g.F.Field.arithmetic c.args.field.now).order) (length es - half) rest
+                  (All-drop (λ (e : ℕ × ℕ). e.1 < (g.F.Field.arithmetic c.args.field.now).order) half es c.requires.chain_codes),
+            ),
           ),
         ),
       ),
@@ -43,5 +57,7 @@ returns-clause-image g t c row =
     let rest : take (length es - half) (drop half es) ≡ drop half es = take_all (length es - half) (drop half es) (omega (arith, length-drop half es)) in
     c.in_ok-sum.ensures.sum row
     ∙ ap (λ (one : ℕ). F.add (coefficient c.in_ok-first.first row) (F.mul one (coefficient c.in_ok-rest.rest row))) c.one.ensures
-    ∙ image-halves (g.met.F.Field.is_field c.args.field.now) m es half row (coefficient c.in_ok-first.first row) (coefficient c.in_ok-rest.rest row) c.requires.chain c.requires.chain_codes
-    (c.in_ok-first.ensures.image row) (c.in_ok-rest.ensures.image row ∙ ap (λ (xs : List (ℕ × ℕ)). image_of F (column_count m) (entry m) (coefficient xs) row) rest)
+    ∙ image-halves (g.met.F.Field.is_field c.args.field.now) m es half row (coefficient c.in_ok-first.first row) (coefficient c.in_ok-rest.rest row)
+    c.requires.chain c.requires.chain_codes
+    (c.in_ok-first.ensures.image row) (c.in_ok-rest.ensures.image row ∙ ap (λ (xs : List (ℕ × ℕ)). image_of F (column_count m) (entry m) (coefficient xs) row)
+    rest)

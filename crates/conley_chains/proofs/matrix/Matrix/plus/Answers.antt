@@ -13,12 +13,15 @@ loop-k-preserved g c =
     let kept = c.self.inside.kept.items in
     let others = c.other.inside.kept.items in
     let below : k < length kept = omega arith in
-    let count : length others ≡ length kept = ap (λ (t : Table). length t.columns) c.other.view_is ∙ c.requires.columns ∙ ap (λ (t : Table). length t.columns) (sym c.self.view_is) in
-    let rows : c.other.inside.row_count ≡ c.self.inside.row_count = ap (λ (t : Table). t.rows) c.other.view_is ∙ c.requires.rows ∙ ap (λ (t : Table). t.rows) (sym c.self.view_is) in
+    let count : length others ≡ length kept = ap (λ (t : Table). length t.columns) c.other.view_is ∙ c.requires.columns
+    ∙ ap (λ (t : Table). length t.columns) (sym c.self.view_is) in
+    let rows : c.other.inside.row_count ≡ c.self.inside.row_count = ap (λ (t : Table). t.rows) c.other.view_is ∙ c.requires.rows
+    ∙ ap (λ (t : Table). t.rows) (sym c.self.view_is) in
     let of_self : c.index.result.now ≡ get_or c.args.self.now.columns k [] =
     c.index.ensures ∙ get_or_default kept k c.index.result.now [] below ∙ ap (λ (t : Table). get_or t.columns k []) c.self.view_is in
     let of_other : c.index-in-loop-k.result.now ≡ get_or c.args.other.now.columns k [] =
-    c.index-in-loop-k.ensures ∙ get_or_default others k c.index-in-loop-k.result.now [] (omega arith) ∙ ap (λ (t : Table). get_or t.columns k []) c.other.view_is in
+    c.index-in-loop-k.ensures ∙ get_or_default others k c.index-in-loop-k.result.now [] (omega arith)
+    ∙ ap (λ (t : Table). get_or t.columns k []) c.other.view_is in
     rw c.in_ok-push.ensures.items (built_more _ _ k c.loop-k.columns.items c.in_ok-column.column c.loop-k.invariant c.in_ok-column.ensures.codes
     (rw of_other at (rw of_self at c.in_ok-column.ensures.sum))
     (λ row beyond. no_code (g.met.F.Field.is_field c.args.field.now) _ c.args.by _

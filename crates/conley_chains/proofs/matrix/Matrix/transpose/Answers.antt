@@ -15,7 +15,8 @@ spread-requires-clause-within c =
     let chain = c.self.invariant.chains k column (omega arith) in
     let keeps = c.self.invariant.keeps_rows k column (omega arith) in
     subst (λ (n : ℕ). All (λ e. e.0 < n) column) (sym rows)
-    (subst (λ (es : List (ℕ × ℕ)). All (λ e. e.0 < c.self.inside.row_count) es) (sym read) (places_within (get_or kept k column) c.self.inside.row_count chain keeps))
+    (subst (λ (es : List (ℕ × ℕ)). All (λ e. e.0 < c.self.inside.row_count) es) (sym read)
+    (places_within (get_or kept k column) c.self.inside.row_count chain keeps))
 
 pub loop-k-preserved : goal.loop-k-preserved
 loop-k-preserved c =

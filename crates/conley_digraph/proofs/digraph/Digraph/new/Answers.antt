@@ -1,6 +1,6 @@
 use Rattle.std.proofs.Common.{arith}
-use Rattle.conley_walk.proofs.ListLemmas.{length-items_of}
-use Rattle.conley_walk.proofs.EntryLemmas.{digraph_same}
+use Rattle.conley_lists.proofs.ListLemmas.{length-items_of}
+use Rattle.conley_lists.proofs.EntryLemmas.{digraph_same}
 use Rattle.conley_digraph.proofs.digraph.Digraph.new.Goals as goal
 
 pub invariant_of-result : goal.invariant_of-result

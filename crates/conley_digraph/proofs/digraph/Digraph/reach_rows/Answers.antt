@@ -1,7 +1,7 @@
 -- rows of all classes
 use Rattle.std.proofs.Common.{arith, length, subst}
 use Rattle.std.proofs.lemmas.List.{get_or_default}
-use Rattle.conley_walk.specs.Lists.{items_of}
+use Rattle.conley_lists.specs.Lists.{items_of}
 use Rattle.conley_digraph.specs.Classes.{AreClasses}
 use Rattle.conley_digraph.specs.Closing.{AreClosing}
 use Rattle.conley_digraph.specs.Numbering.{IsRenumbered}
@@ -18,13 +18,20 @@ pub renumbered-requires-clause-below : goal.renumbered-requires-clause-below
 renumbered-requires-clause-below c =
     let closing = rw c.deref.ensures.value at c.in_ok-closing.ensures in
     let numbers = c.in_ok-closing.closing.numbers.items in
-    rw c.deref-2.ensures.value (λ k d lt. omega (arith, get_or_default numbers k d 0 lt, closing.below k (omega (arith, lt, closing.count)), c.len.ensures, c.in_ok-closing.closing.roots.ok.0))
+    rw c.deref-2.ensures.value (λ k d lt. omega (
+      arith,
+      get_or_default numbers k d 0 lt,
+      closing.below k (omega (arith, lt, closing.count)),
+      c.len.ensures,
+      c.in_ok-closing.closing.roots.ok.0,
+    ))
 
 -- what was found so far, without places in memory
 are_closing : (c : After-deref-5) → AreClosing (items_of c.self.inside.heads.items) c.in_ok-closing.closing.numbers.items c.in_ok-closing.closing.roots.items
 are_closing c = rw c.deref.ensures.value at c.in_ok-closing.ensures
 
-renumbered : (c : After-deref-5) → IsRenumbered c.in_ok-closing.closing.numbers.items c.in_ok-class_of.class_of.items (length c.in_ok-closing.closing.numbers.items)
+renumbered : (c : After-deref-5) → IsRenumbered c.in_ok-closing.closing.numbers.items c.in_ok-class_of.class_of.items
+    (length c.in_ok-closing.closing.numbers.items)
 renumbered c = rw c.deref-2.ensures.value at c.in_ok-class_of.ensures
 
 are_classes : (c : After-deref-5) → AreClasses (items_of c.self.inside.heads.items) c.in_ok-class_of.class_of.items
@@ -37,13 +44,15 @@ pub class_rows-requires-clause-digraph : goal.class_rows-requires-clause-digraph
 class_rows-requires-clause-digraph c = rw c.deref-3.ensures.value c.self.invariant.digraph
 
 pub class_rows-requires-clause-classes : goal.class_rows-requires-clause-classes
-class_rows-requires-clause-classes c = rw (c.deref-3.ensures.value, c.deref-4.ensures.value) (are_classes (goal.at.class_rows-requires-clause-classes c).After-deref-5)
+class_rows-requires-clause-classes c = rw (c.deref-3.ensures.value, c.deref-4.ensures.value)
+    (are_classes (goal.at.class_rows-requires-clause-classes c).After-deref-5)
 
 pub class_rows-requires-clause-order : goal.class_rows-requires-clause-order
 class_rows-requires-clause-order c =
     let d = (goal.at.class_rows-requires-clause-order c).After-deref-5 in
     rw (c.deref-3.ensures.value, c.deref-4.ensures.value, c.deref-5.ensures.value)
-    (closing_order (items_of c.self.inside.heads.items) c.in_ok-closing.closing.numbers.items c.in_ok-closing.closing.roots.items c.in_ok-class_of.class_of.items c.self.invariant.digraph (are_closing d) (renumbered d))
+    (closing_order (items_of c.self.inside.heads.items) c.in_ok-closing.closing.numbers.items c.in_ok-closing.closing.roots.items
+    c.in_ok-class_of.class_of.items c.self.invariant.digraph (are_closing d) (renumbered d))
 
 pub from_rows-requires : goal.from_rows-requires
 from_rows-requires c =

@@ -1,7 +1,7 @@
 -- the node is met, and then one turn more is taken
 use Rattle.std.proofs.Common.{arith, ◌<◌, length}
-use Rattle.conley_walk.specs.Lists.{items_of}
-use Rattle.conley_walk.proofs.ListLemmas.{length-items_of}
+use Rattle.conley_lists.specs.Lists.{items_of}
+use Rattle.conley_lists.proofs.ListLemmas.{length-items_of}
 use Rattle.conley_digraph.proofs.ClosingLemmas.{visit_search, visit_keeps, visit_meets}
 use Rattle.conley_digraph.proofs.search.Search.visit.Goals as goal
 

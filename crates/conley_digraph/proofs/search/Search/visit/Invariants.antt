@@ -1,6 +1,6 @@
 use Rattle.std.proofs.Common.{ℕ}
 use Rattle.std.specs.Prelude.{sum}
-use Rattle.conley_walk.specs.Lists.{items_of}
+use Rattle.conley_lists.specs.Lists.{items_of}
 use Rattle.conley_digraph.specs.Search.{IsMet, IsSearchOf}
 use Rattle.conley_digraph.proofs.search.Search.visit.Given as goal
 

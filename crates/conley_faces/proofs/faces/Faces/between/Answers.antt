@@ -1,7 +1,7 @@
 use Rattle.std.proofs.Common.{◌<◌, get_or, length, refl}
 use Rattle.std.proofs.lemmas.Bool.{false≢true}
 use Rattle.std.proofs.lemmas.List.Elements.{Contains-get_or}
-use Rattle.conley_walk.proofs.ListLemmas.{All-from_contained, take_whole}
+use Rattle.conley_lists.proofs.ListLemmas.{All-from_contained, take_whole}
 use Rattle.conley_faces.specs.Face.{IsFace}
 use Rattle.conley_faces.proofs.FaceLemmas.{face_ends}
 use Rattle.conley_faces.proofs.PartLemmas.{part-more, part-other}
@@ -22,10 +22,12 @@ loop-y-preserved c =
     elim c.if-is_face.branch [
       | then-is_face+in_ok-push w ↦
           rw (w.list-is, w.in_ok-push.ensures.items)
-          (part-more (λ y. IsFace c.args.self.now y c.args.z) items c.loop-y.list.items c.loop-y.y-index c.loop-y-test.true up c.loop-y.invariant (w.if-is_face.ensures.0 refl))
+          (part-more (λ y. IsFace c.args.self.now y c.args.z) items c.loop-y.list.items c.loop-y.y-index c.loop-y-test.true up c.loop-y.invariant
+          (w.if-is_face.ensures.0 refl))
       | else-is_face w ↦
           rw w.list-is
-          (part-other (λ y. IsFace c.args.self.now y c.args.z) items c.loop-y.list.items c.loop-y.y-index c.loop-y-test.true up c.loop-y.invariant (λ f. false≢true (w.if-is_face.ensures.1 f)))
+          (part-other (λ y. IsFace c.args.self.now y c.args.z) items c.loop-y.list.items c.loop-y.y-index c.loop-y-test.true up c.loop-y.invariant
+          (λ f. false≢true (w.if-is_face.ensures.1 f)))
     ]
 
 pub returns-clause-cells : goal.returns-clause-cells

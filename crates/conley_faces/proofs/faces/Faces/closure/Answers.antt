@@ -1,7 +1,7 @@
 use Rattle.std.proofs.Common.{arith, ℕ, length, ◌<◌}
 use Rattle.std.specs.Prelude.{Contains, ◌↔◌}
-use Rattle.conley_walk.specs.Lists.{items_of}
-use Rattle.conley_walk.proofs.ListLemmas.{All-from_contained, length-items_of}
+use Rattle.conley_lists.specs.Lists.{items_of}
+use Rattle.conley_lists.proofs.ListLemmas.{All-from_contained, length-items_of}
 use Rattle.conley_faces.specs.Face.{IsInClosure}
 use Rattle.conley_faces.proofs.FaceLemmas.{face_ends}
 use Rattle.conley_faces.proofs.ClosureLemmas.{closure_listed}
@@ -10,7 +10,8 @@ use Rattle.conley_faces.proofs.faces.Faces.closure.Goals.{After-drop-all-2}
 
 closure : (c : After-drop-all-2) (y : ℕ) → Contains c.in_ok-list.list.items y ↔ IsInClosure c.args.self.now c.args.set.now y
 closure c y =
-    let listed = rw c.self.view_is at (closure_listed (items_of c.self.inside.direct.items) (items_of c.self.inside.closures.items) c.self.invariant.closures c.args.set.now y) in
+    let listed = rw c.self.view_is at (closure_listed (items_of c.self.inside.direct.items) (items_of c.self.inside.closures.items) c.self.invariant.closures
+    c.args.set.now y) in
     let all = rw c.deref.ensures.value at (c.in_ok-all.ensures y) in
     let same = rw c.deref-2.ensures.value at (c.in_ok-list.ensures.same y) in
     ((λ d. listed.0 (all.0 (same.0 d))), (λ g. same.1 (all.1 (listed.1 g))))

@@ -1,5 +1,5 @@
 use Rattle.std.proofs.Common.{arith, ◌<◌, length, ap}
-use Rattle.conley_walk.proofs.ListLemmas.{row_of, length-items_of}
+use Rattle.conley_lists.proofs.ListLemmas.{row_of, length-items_of}
 use Rattle.conley_faces.proofs.faces.Faces.direct.Goals as goal
 
 pub returns-clause-ascending : goal.returns-clause-ascending

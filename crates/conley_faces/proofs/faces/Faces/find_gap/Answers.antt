@@ -1,6 +1,6 @@
 use Rattle.std.proofs.Common.{arith, refl, subst, inl, inr, below_more}
 use Rattle.std.proofs.lemmas.Bool.{true≢false}
-use Rattle.conley_walk.proofs.ListLemmas.{place_of, stands_before}
+use Rattle.conley_lists.proofs.ListLemmas.{place_of, stands_before}
 use Rattle.conley_faces.specs.Face.{IsGap}
 use Rattle.conley_faces.proofs.faces.Faces.find_gap.Goals as goal
 

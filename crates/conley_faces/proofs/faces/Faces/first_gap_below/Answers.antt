@@ -1,6 +1,6 @@
 use Rattle.std.proofs.Common.{arith, ◌<◌, ◌≤◌, get_or, refl, subst, below_more}
 use Rattle.std.proofs.lemmas.List.Elements.{Contains-get_or}
-use Rattle.conley_walk.proofs.ListLemmas.{place_of, at_least}
+use Rattle.conley_lists.proofs.ListLemmas.{place_of, at_least}
 use Rattle.conley_faces.specs.Face.{IsFace}
 use Rattle.conley_faces.proofs.FaceLemmas.{face_ends}
 use Rattle.conley_faces.proofs.faces.Faces.first_gap_below.Goals.{then-not-stands_in+in_default, else-not-stands_in}

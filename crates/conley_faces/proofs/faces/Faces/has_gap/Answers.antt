@@ -1,5 +1,5 @@
 use Rattle.std.proofs.Common.{arith, refl, below_more}
-use Rattle.conley_walk.proofs.ListLemmas.{place_of}
+use Rattle.conley_lists.proofs.ListLemmas.{place_of}
 use Rattle.conley_faces.proofs.GapLemmas.{closed_by_steps}
 use Rattle.conley_faces.proofs.faces.Faces.has_gap.Goals as goal
 

@@ -1,9 +1,9 @@
 use Rattle.std.proofs.Common.{arith, ◌<◌, length, get_or, refl, below_more}
 use Rattle.std.proofs.lemmas.Bool.{false≢true}
 use Rattle.std.proofs.lemmas.List.Elements.{Contains-get_or, All-contains}
-use Rattle.conley_walk.specs.Lists.{ListedStep}
+use Rattle.conley_lists.specs.Lists.{ListedStep}
 use Rattle.conley_walk.proofs.WalkLemmas.{reaches_by_step}
-use Rattle.conley_walk.proofs.ListLemmas.{place_of}
+use Rattle.conley_lists.proofs.ListLemmas.{place_of}
 use Rattle.conley_faces.proofs.faces.Faces.leaves_and_returns.Goals.{then-not-stands_in+in_default, else-not-stands_in, After-stands_in}
 use Rattle.conley_faces.proofs.faces.Faces.leaves_and_returns.Goals as goal
 
@@ -24,7 +24,11 @@ returns-in-Some-clause-yes c = λ _ closed.
       upper = c.requires.cell;
       lower = c.in-Some.ensures.found.0;
       outside = λ d. false≢true (c.if-not-stands_in.ensures.1 d);
-      down = record { cell = All-contains (λ q. q < length c.args.self.now) c.args.set.now c.args.x c.requires.set.cells c.requires.cell; walk = reaches_by_step {Step = ListedStep c.args.self.now} {x = c.args.x} {y = y} (under (goal.at.returns-in-Some-clause-yes c).After-stands_in) };
+      down = record {
+        cell = All-contains (λ q. q < length c.args.self.now) c.args.set.now c.args.x c.requires.set.cells c.requires.cell;
+        walk =
+            reaches_by_step {Step = ListedStep c.args.self.now} {x = c.args.x} {y = y} (under (goal.at.returns-in-Some-clause-yes c).After-stands_in);
+      };
       further = c.in-Some.ensures.found.1;
     })
 

@@ -1,6 +1,6 @@
 use Rattle.std.proofs.Common.{length, ◌<◌}
 use Rattle.std.proofs.lemmas.List.Elements.{All-contains}
-use Rattle.conley_walk.proofs.ListLemmas.{All-from_contained}
+use Rattle.conley_lists.proofs.ListLemmas.{All-from_contained}
 use Rattle.conley_faces.proofs.faces.Faces.mouth.Goals as goal
 
 pub returns-clause-cells : goal.returns-clause-cells

@@ -1,7 +1,7 @@
 use Rattle.std.proofs.Common.{arith, ◌≡◌, Ok, ap, subst}
-use Rattle.conley_walk.specs.Lists.{items_of}
-use Rattle.conley_walk.proofs.ListLemmas.{length-items_of}
-use Rattle.conley_walk.proofs.EntryLemmas.{digraph_same}
+use Rattle.conley_lists.specs.Lists.{items_of}
+use Rattle.conley_lists.proofs.ListLemmas.{length-items_of}
+use Rattle.conley_lists.proofs.EntryLemmas.{digraph_same}
 use Rattle.conley_faces.specs.Face.{IsLeastBelowItself}
 use Rattle.conley_faces.proofs.FaceLemmas.{least_same, below_ordered}
 use Rattle.conley_faces.proofs.ClosureLemmas.{closures_whole}

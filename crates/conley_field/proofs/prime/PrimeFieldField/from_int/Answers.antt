@@ -11,11 +11,13 @@ returns-then-n-lt0 c =
     let passed = to_z-of_z w64 c.args.n c.ranges.n in
     c.neg.ensures
     ∙ code-negative (order_of c.args.self.now) c.of-ones.result c.args.n above (rw passed at c.if-n-lt0.true)
-    (c.of-ones.ensures ∙ ap (λ (n : ℕ). n % c.order.result) (rw passed at c.unsigned_abs.ensures.value) ∙ ap (λ (n : ℕ). unsigned_abs c.args.n % n) c.order.ensures.order)
+    (c.of-ones.ensures ∙ ap (λ (n : ℕ). n % c.order.result) (rw passed at c.unsigned_abs.ensures.value)
+    ∙ ap (λ (n : ℕ). unsigned_abs c.args.n % n) c.order.ensures.order)
 
 pub returns-else-n-lt0 : goal.returns-else-n-lt0
 returns-else-n-lt0 c =
     let above = (order_of-IsField c.args.self.now).one_below in
     let passed = to_z-of_z w64 c.args.n c.ranges.n in
     code-not_negative (order_of c.args.self.now) c.of-ones.result c.args.n above (rw passed at c.if-n-lt0.false)
-    (c.of-ones.ensures ∙ ap (λ (n : ℕ). n % c.order.result) (rw passed at c.unsigned_abs.ensures.value) ∙ ap (λ (n : ℕ). unsigned_abs c.args.n % n) c.order.ensures.order)
+    (c.of-ones.ensures ∙ ap (λ (n : ℕ). n % c.order.result) (rw passed at c.unsigned_abs.ensures.value)
+    ∙ ap (λ (n : ℕ). unsigned_abs c.args.n % n) c.order.ensures.order)

@@ -7,4 +7,5 @@ use Rattle.conley_homology.proofs.column.Columns.collect.Given as goal
 
 abbrev pub invariant-loop-i : goal.invariant-loop-i
 invariant-loop-i l =
-    IsCollected l.self.kept.items (IsFree (dim_in l.part.dims.now) (place_in l.part.set.now) (vector_at l.self.reduced.items) (owner_at l.self.owner.items) l.level) l.i l.count l.fn.cycles.items l.cycles.items
+    IsCollected l.self.kept.items (IsFree (dim_in l.cells.dims.now) (place_in l.cells.set.now) (vector_at l.self.reduced.items) (owner_at l.self.owner.items)
+    l.level) l.i l.count l.fn.cycles.items l.cycles.items

@@ -7,4 +7,5 @@ use Rattle.conley_homology.proofs.column.Columns.count.Given as goal
 
 abbrev pub invariant-loop-place : goal.invariant-loop-place
 invariant-loop-place l =
-    IsCounted (IsFree (dim_in l.part.dims.now) (place_in l.part.set.now) (vector_at l.self.reduced.items) (owner_at l.self.owner.items) l.level) l.place l.count
+    IsCounted (IsFree (dim_in l.cells.dims.now) (place_in l.cells.set.now) (vector_at l.self.reduced.items) (owner_at l.self.owner.items) l.level) l.place
+    l.count

@@ -1,7 +1,7 @@
 use Rattle.std.proofs.Common.{arith, ◌≡◌, ◌<◌, ℕ, List, [], length, get_or, ap, ◌∙◌, subst}
 use Rattle.std.specs.Prelude.{Contains, ◌↔◌}
-use Rattle.conley_walk.specs.Lists.{items_of}
-use Rattle.conley_walk.proofs.ListLemmas.{row_of, length-items_of}
+use Rattle.conley_lists.specs.Lists.{items_of}
+use Rattle.conley_lists.proofs.ListLemmas.{row_of, length-items_of}
 use Rattle.conley_mvf.specs.Partition.{IsInPart}
 use Rattle.conley_mvf.proofs.partition.Partition.cells_of.Goals.{After-index}
 use Rattle.conley_mvf.proofs.partition.Partition.cells_of.Goals as goal

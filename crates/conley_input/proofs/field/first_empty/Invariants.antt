@@ -1,6 +1,0 @@
-use Rattle.std.proofs.Common.{◌≡◌, ◌<◌, ℕ, [], get_or}
-use Rattle.conley_walk.specs.Lists.{items_of}
-use Rattle.conley_input.proofs.field.first_empty.Given as goal
-
-abbrev pub invariant-loop-k : goal.invariant-loop-k
-invariant-loop-k l = (j : ℕ) → j < l.k → get_or (items_of l.lists) j [] ≡ [] → ⊥

@@ -1,6 +1,0 @@
-use Rattle.std.proofs.Common.{take}
-use Rattle.conley_walk.specs.Lists.{items_of, IsOrderedCopy}
-use Rattle.conley_walk.proofs.lists.all_ordered.Given as goal
-
-abbrev pub invariant-loop-list : goal.invariant-loop-list
-invariant-loop-list l = IsOrderedCopy (items_of l.copies.items) (items_of (take l.list-index l.lists))

@@ -1,5 +1,0 @@
-use Rattle.std.proofs.Common.{◌<◌, All, take}
-use Rattle.conley_walk.proofs.lists.place_out_of_range.Given as goal
-
-abbrev pub invariant-loop-k : goal.invariant-loop-k
-invariant-loop-k l = All (λ y. y < l.n) (take l.k l.list)

@@ -1,5 +1,0 @@
-use Rattle.conley_walk.proofs.MakingLemmas.{IsPut}
-use Rattle.conley_walk.proofs.making.put_at.Given as goal
-
-abbrev pub invariant-loop-i : goal.invariant-loop-i
-invariant-loop-i l = IsPut l.initial.numbers.items l.places l.i l.number l.numbers.items
