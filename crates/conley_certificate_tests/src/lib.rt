@@ -1,9 +1,21 @@
-//! Tests of certificates: texts that are read, written, refused and checked. Expected values were worked out by hand.
+//! Tests of problem files, of certificates, and of the analyses that these tell, a module a library. Expected values were worked out by hand.
 #![tactic(auto)]
 
 #[cfg(test)]
-mod checked;
+mod analysis_tests;
 #[cfg(test)]
-mod edges;
+mod certificate_file_tests;
 #[cfg(test)]
-mod texts;
+mod checker_tests;
+#[cfg(test)]
+mod complexes;
+#[cfg(test)]
+mod equivalence_tests;
+#[cfg(test)]
+mod input_tests;
+#[cfg(test)]
+mod matrices;
+#[cfg(test)]
+mod trial_tests;
+#[cfg(test)]
+mod uses_tests;

@@ -70,3 +70,17 @@ pub fn triangle(alloc: Global) -> Result<Complex<PrimeField>, Fail>
     }
     Ok(complex)
 }
+
+/// Whether the cells have these labels, in this order.
+pub fn has_labels<F: Field>(complex: &Complex<F>, labels: &[&str]) -> bool {
+    let count = complex.count();
+    if count != labels.len() {
+        return false;
+    }
+    for x in 0..count as u32 {
+        if complex.label(x) != labels[x as usize] {
+            return false;
+        }
+    }
+    true
+}

@@ -8,7 +8,11 @@ use std::alloc::Global;
 use std::test::Fail;
 
 /// The homology of cells that are found to be locally closed.
-fn homology_of(alloc: Global, complex: &Complex<PrimeField>, set: &[u32]) -> Result<Homology, Fail>
+pub(crate) fn homology_of(
+    alloc: Global,
+    complex: &Complex<PrimeField>,
+    set: &[u32],
+) -> Result<Homology, Fail>
     requires { IsCellList complex.now.1.faces set.now }
 {
     if let Some(_gap) = complex.faces().find_gap(set) {

@@ -14,4 +14,6 @@ mod morse_tests;
 #[cfg(test)]
 mod mvf_tests;
 #[cfg(test)]
+mod surfaces;
+#[cfg(test)]
 mod transitions_tests;

@@ -1,4 +1,4 @@
-use conley_chains::Matrix;
+use crate::entries::has_entries;
 use conley_field::{Field, PrimeField};
 use conley_fixtures::{complex_of, labels_of};
 use conley_lefschetz::{Complex, ComplexError};
@@ -33,19 +33,6 @@ fn two_edges_and_three_vertices(rt: HostRuntime) -> Result<(), Fail> {
     Ok(())
 }
 
-/// Whether a boundary over five cells has these entries: row, column and code.
-fn has_entries(boundary: &Matrix, entries: &[(u32, u32, u8)]) -> bool {
-    if boundary.rows() != 5 || boundary.columns() != 5 {
-        return false;
-    }
-    for (row, column, code) in entries {
-        if *column >= 5 || boundary.entry(*row, *column).code() != *code {
-            return false;
-        }
-    }
-    true
-}
-
 /// Entries of the boundary of the two edges.
 const BOUNDARY: [(u32, u32, u8); 6] = [
     (0, 3, 2),
@@ -59,7 +46,10 @@ const BOUNDARY: [(u32, u32, u8); 6] = [
 #[test]
 fn incidences_are_the_boundary(rt: HostRuntime) -> Result<(), Fail> {
     let complex = path(rt.alloc())?;
-    assert!(rt; has_entries(complex.boundary(), &BOUNDARY));
+    let boundary = complex.boundary();
+    assert!(rt;
+        boundary.rows() == 5 && boundary.columns() == 5 && has_entries(boundary, &BOUNDARY)
+    );
     Ok(())
 }
 

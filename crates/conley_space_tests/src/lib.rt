@@ -4,6 +4,10 @@
 #[cfg(test)]
 mod chains_tests;
 #[cfg(test)]
+mod cubical_tests;
+#[cfg(test)]
+mod entries;
+#[cfg(test)]
 mod faces_tests;
 #[cfg(test)]
 mod field_tests;
@@ -15,5 +19,7 @@ mod lefschetz_tests;
 mod lists_tests;
 #[cfg(test)]
 mod order_tests;
+#[cfg(test)]
+mod simplicial_tests;
 #[cfg(test)]
 mod walk_tests;

@@ -1,4 +1,4 @@
-use crate::asking::has_labels;
+use conley_fixtures::has_labels;
 use conley_input::{FileFault, InputError, Problem};
 use conley_morse::morse;
 use std::alloc::{AllocError, Global};

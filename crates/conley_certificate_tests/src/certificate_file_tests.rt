@@ -1,6 +1,6 @@
 //! Texts of certificates over an edge with its two ends.
 
-use crate::edges::edge;
+use crate::complexes::edge;
 use conley_certificate_file::{CertError, CertFault, Certificate};
 use std::alloc::Global;
 use std::test::Fail;

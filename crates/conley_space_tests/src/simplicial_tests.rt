@@ -1,6 +1,6 @@
-use crate::asking::{has_entries, has_labels};
+use crate::entries::has_entries;
 use conley_field::PrimeField;
-use conley_fixtures::{labels_of, lists_of};
+use conley_fixtures::{has_labels, labels_of, lists_of};
 use conley_lefschetz::Complex;
 use conley_simplicial::{SimplicialError, simplicial};
 use std::alloc::Global;

@@ -1,6 +1,6 @@
 use Rattle.std.proofs.Common.{◌<◌, All}
 use Rattle.std.specs.List.Sorted.{IsStrictlyIncreasing}
-use Rattle.conley_uses.proofs.surfaces.all_cells.Given as goal
+use Rattle.conley_flow_tests.proofs.surfaces.all_cells.Given as goal
 
 abbrev pub invariant-loop-cell : goal.invariant-loop-cell
 invariant-loop-cell l = record {

@@ -1,6 +1,6 @@
 //! Certificates of an edge that is one part with one of its ends: the flow leads to the other end.
 
-use crate::edges::edge;
+use crate::complexes::edge;
 use conley_certificate::Reason;
 use conley_checker::{CheckError, check_text};
 use conley_fixtures::lists_of;

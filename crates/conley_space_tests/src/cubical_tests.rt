@@ -1,6 +1,7 @@
-use crate::asking::{has_entries, has_labels};
+use crate::entries::has_entries;
 use conley_cubical::{CubicalError, cubical};
 use conley_field::PrimeField;
+use conley_fixtures::has_labels;
 use conley_lefschetz::Complex;
 use std::alloc::Global;
 use std::test::Fail;

@@ -3,7 +3,7 @@ use Rattle.std.proofs.Common.{arith, inl, List, ℕ, ap, length, subst}
 use Rattle.conley_lists.specs.Lists.{IsDigraph}
 use Rattle.conley_walk.proofs.WalkLemmas.{reaches_by_step}
 use Rattle.conley_lists.proofs.ListLemmas.{step_begins}
-use Rattle.conley_reduction_tests.proofs.equivalence_tests.without_pair.Goals as goal
+use Rattle.conley_certificate_tests.proofs.equivalence_tests.is_taken_out.Goals as goal
 
 pub over_reach-requires-clause-digraph : goal.over_reach-requires-clause-digraph
 over_reach-requires-clause-digraph c = subst (λ (l : List (List ℕ)). IsDigraph l) c.faces.ensures.faces c.count-cells.ensures.order.digraph

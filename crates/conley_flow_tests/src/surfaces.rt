@@ -1,9 +1,10 @@
 ghost use Rattle.std.specs.Prelude.{IfOk};
 ghost use Rattle.conley_faces.specs.Face.{IsCellList};
 
+use crate::homology_tests::homology_of;
 use conley_field::PrimeField;
 use conley_fixtures::complex_of;
-use conley_homology::{Homology, relative};
+use conley_homology::Homology;
 use conley_lefschetz::Complex;
 use std::alloc::{AllocError, Global};
 use std::test::Fail;
@@ -170,16 +171,6 @@ fn all_cells(alloc: Global, complex: &Complex<PrimeField>) -> Result<Vec<u32>, A
         cells.push(cell)?;
     }
     Ok(cells)
-}
-
-/// The homology of cells that are found to be locally closed.
-fn homology_of(alloc: Global, complex: &Complex<PrimeField>, set: &[u32]) -> Result<Homology, Fail>
-    requires { IsCellList complex.now.1.faces set.now }
-{
-    if let Some(_gap) = complex.faces().find_gap(set) {
-        return Err("a gap".into());
-    }
-    Ok(relative(alloc, complex, set)?)
 }
 
 /// The homology of a surface over a field with so many elements.

@@ -1,7 +1,7 @@
 use Rattle.std.proofs.Common.{arith, ◌<◌, ◌+◌}
 use Rattle.std.proofs.lemmas.List.Elements.{All-push, All-weaker}
 use Rattle.conley_lists.proofs.ListLemmas.{increasing-push}
-use Rattle.conley_uses.proofs.surfaces.all_cells.Goals as goal
+use Rattle.conley_flow_tests.proofs.surfaces.all_cells.Goals as goal
 
 pub loop-cell-preserved : goal.loop-cell-preserved
 loop-cell-preserved c =

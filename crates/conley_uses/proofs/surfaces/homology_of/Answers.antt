@@ -1,7 +1,0 @@
-use Rattle.std.proofs.Common.{ℕ, List, subst, rules}
-use Rattle.conley_faces.specs.Face.{IsLocallyClosed}
-use Rattle.conley_uses.proofs.surfaces.homology_of.Goals as goal
-
-pub relative-requires-clause-closed : goal.relative-requires-clause-closed
-relative-requires-clause-closed c =
-    subst (λ (faces : List (List ℕ)). IsLocallyClosed faces c.args.set.now) c.faces.ensures.faces (c.in_default.ensures.none.0 (search rules))
