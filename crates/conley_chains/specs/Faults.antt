@@ -22,8 +22,8 @@ no_memory e error = error ≡ NoMemory
 
 -- the first of three faults of entry k that holds: something out of range, a code that is zero, a place that stood before
 abbrev pub first_of_three : ℕ → Bool → Bool → Bool → Option MatrixError
-first_of_three k out_of_range zero repeated = if out_of_range then Some (Range k) else (if zero then Some (Zero k) else
-    (if repeated then Some (Repeated k) else None))
+first_of_three k out_of_range zero repeated =
+    if out_of_range then Some (Range k) else (if zero then Some (Zero k) else (if repeated then Some (Repeated k) else None))
 
 -- whether an entry stands at this place
 abbrev pub stands : List (ℕ × ℕ) → ℕ → Bool

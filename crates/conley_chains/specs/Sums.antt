@@ -26,8 +26,8 @@ IsMatrixSum F a by b sum = (row column : ℕ) → entry sum row column ≡ F.add
 
 abbrev pub AddsColumn : Arithmetic → Table → ℕ → ℕ → ℕ → Table → Type 0
 AddsColumn F old target source by new =
-    (row column : ℕ) → entry new row column ≡ (if column == target then F.add (entry old row target) (F.mul by (entry old row source)) else entry old row
-    column)
+    (row column : ℕ) → entry new row column
+    ≡ (if column == target then F.add (entry old row target) (F.mul by (entry old row source)) else entry old row column)
 
 abbrev pub IsChainPart : List ℕ → List (ℕ × ℕ) → List (ℕ × ℕ) → Type 0
 IsChainPart places es part = (i : ℕ) → i < length places → coefficient part i ≡ coefficient es (slice_index places i)

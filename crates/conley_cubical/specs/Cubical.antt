@@ -19,8 +19,8 @@ pub record AreCubes (cubes : List (List (ℤ × ℤ))) (cells : List (List ℕ))
 
 -- t is s with one of the ends in place of a wide pair
 abbrev pub IsEnd : List ℕ → List ℕ → Type 0
-IsEnd s t = (k : ℕ) × (k < length s) × (is_wide (slice_index s k) ≡ true) × ((t ≡ slice_set s k (slice_index s k + 1))
-    ⊎ (t ≡ slice_set s k (slice_index s k - 1)))
+IsEnd s t = (k : ℕ) × (k < length s) × (is_wide (slice_index s k) ≡ true)
+    × ((t ≡ slice_set s k (slice_index s k + 1)) ⊎ (t ≡ slice_set s k (slice_index s k - 1)))
 
 -- cell x is the cube in place x
 pub record AreCubeValues (F : Arithmetic) (cells : List (List ℕ)) (boundary : Table) : Type 0 where
@@ -44,5 +44,5 @@ pub record IsCubicalComplex (F : Arithmetic) (cubes : List (List (ℤ × ℤ))) 
 
 -- at most one complex has the laws and is that of the cubes
 abbrev pub CubicalComplexIsOne : Arithmetic → Type 0
-CubicalComplexIsOne F = (cubes : List (List (ℤ × ℤ))) (a b : Layout) → IsLayout F a → IsLayout F b → IsCubicalComplex F cubes a → IsCubicalComplex F cubes b
-    → a ≡ b
+CubicalComplexIsOne F = (cubes : List (List (ℤ × ℤ))) (a b : Layout) → IsLayout F a → IsLayout F b
+    → IsCubicalComplex F cubes a → IsCubicalComplex F cubes b → a ≡ b

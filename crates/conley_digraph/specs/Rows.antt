@@ -30,8 +30,8 @@ pub record IsRowSoFar (lists : List (List ℕ)) (class_of : List ℕ) (count cla
   pub width : length row ≡ count / 64 + 1
   pub own : word_bit row class ≡ 1
   pub sound : (x y : ℕ) → x < length lists → y < length lists → slice_index class_of x ≡ class → word_bit row (slice_index class_of y) ≡ 1 → ReachesIn lists x y
-  pub full : (y z : ℕ) → y < length lists → z < length lists → slice_index class_of y ≢ class → word_bit row (slice_index class_of y) ≡ 1 → ReachesIn lists y z
-      → word_bit row (slice_index class_of z) ≡ 1
+  pub full : (y z : ℕ) → y < length lists → z < length lists → slice_index class_of y ≢ class
+      → word_bit row (slice_index class_of y) ≡ 1 → ReachesIn lists y z → word_bit row (slice_index class_of z) ≡ 1
 
 pub record JoinsHeads (old new class_of heads : List ℕ) : Type 0 where
   pub kept : (b : ℕ) → word_bit old b ≡ 1 → word_bit new b ≡ 1

@@ -34,7 +34,7 @@ fn single(alloc: Global, place: u32, scalar: Scalar) -> Result<Chain, NoMemory>
     Chain::from_pairs(alloc, &[(place, scalar)])
 }
 
-/// How many times `k` cancels the entry of column `x` in row `q`.
+/// How many times `k` cancels the entry of column `x` at `q`.
 fn times<F: Field>(field: &F, matrix: &Matrix, n: usize, k: u32, q: u32, x: u32) -> Scalar
     requires pair { IsPairOf (F.arithmetic field.now) n matrix.now k q }
     requires x { x < n }
@@ -175,7 +175,7 @@ fn psi_column<F: Field>(
     Ok(rest)
 }
 
-/// The boundary of `k` times the negative of the inverse of its entry in row `q`.
+/// The boundary of `k` times the negative of the inverse of its entry at `q`.
 fn negative_inverse_of_boundary<F: Field>(
     alloc: Global,
     field: &F,

@@ -39,8 +39,8 @@ pub record HaveFirsts (parts firsts : List ℕ) : Type 0 where
 pub record HasFirstsSoFar (parts : List ℕ) (n : ℕ) (first firsts : List ℕ) : Type 0 where
   pub count : length firsts ≡ n
   pub told : AreToldBy first parts n firsts
-  pub known : (i : ℕ) → i < n → (slice_index first (slice_index parts i) ≤ i) × (slice_index parts (slice_index first (slice_index parts i)) ≡ slice_index
-      parts i)
+  pub known : (i : ℕ) → i < n → (slice_index first (slice_index parts i) ≤ i)
+      × (slice_index parts (slice_index first (slice_index parts i)) ≡ slice_index parts i)
   pub met : (p : ℕ) → p < length first → (slice_index first p ≡ length parts) ⊎ ((i : ℕ) × (i < n) × (slice_index parts i ≡ p))
 
 pub record LinksFirsts (firsts : List ℕ) (n : ℕ) (old new : List (List ℕ)) : Type 0 where

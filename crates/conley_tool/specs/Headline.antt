@@ -43,8 +43,8 @@ OnArgument true files word Next what = OnProblem files word Next what
 OnArgument false files word Next what = OnMade word Next what
 
 abbrev pub IsDueOf : Files → Command → Due → Type 0
-IsDueOf files command what = OnArgument (reads_file command.verb) files (slice_index_or command.arguments 0 []) (IsDueOn command.verb files command.arguments)
-    what
+IsDueOf files command what =
+    OnArgument (reads_file command.verb) files (slice_index_or command.arguments 0 []) (IsDueOn command.verb files command.arguments) what
 
 abbrev pub IsDue : Files → Option Command → Due → Type 0
 IsDue files None what = what ≡ ends Usage

@@ -25,8 +25,8 @@ ForEachFlow Law = (faces : List (List ℕ)) (part_of : List ℕ) (regular : ℕ 
 -- ---- the finest decomposition
 
 abbrev pub ClassesAreMorse : Flow → Type 0
-ClassesAreMorse flow = (sets : List (List ℕ)) (below : ℕ → ℕ → Bool) → IsFlow flow → AreCountingClasses flow sets → IsReachOrder flow sets below
-    → IsMorse flow sets below
+ClassesAreMorse flow = (sets : List (List ℕ)) (below : ℕ → ℕ → Bool)
+    → IsFlow flow → AreCountingClasses flow sets → IsReachOrder flow sets below → IsMorse flow sets below
 
 abbrev pub ClassesAreFinest : Flow → Type 0
 ClassesAreFinest flow = (sets : List (List ℕ)) → IsFlow flow → AreCountingClasses flow sets → IsFinest flow sets

@@ -46,8 +46,8 @@ pub record IsStrictOrder (n : ℕ) (below : ℕ → ℕ → Bool) : Type 0 where
 abbrev pub Descends : {flow : Flow} → List (List ℕ) → (ℕ → ℕ → Bool) → Lasso flow → Type 0
 Descends sets below lasso =
     ((i : ℕ) × (i < length sets) × LieIn (set_at sets i) (lasso_cells lasso))
-    ⊎ ((i : ℕ) × (j : ℕ) × (i < length sets) × (j < length sets) × LieIn (set_at sets i) (alpha_cells lasso) × LieIn (set_at sets j) (omega_cells lasso)
-    × (below j i ≡ true))
+    ⊎ ((i : ℕ) × (j : ℕ) × (i < length sets) × (j < length sets)
+    × LieIn (set_at sets i) (alpha_cells lasso) × LieIn (set_at sets j) (omega_cells lasso) × (below j i ≡ true))
 
 -- disjoint non-empty isolated invariant sets with a strict partial order, along which every lasso descends
 pub record IsMorse (flow : Flow) (sets : List (List ℕ)) (below : ℕ → ℕ → Bool) : Type 0 where
@@ -59,8 +59,8 @@ pub record IsMorse (flow : Flow) (sets : List (List ℕ)) (below : ℕ → ℕ �
 
 -- each set lies in a set of every Morse decomposition
 abbrev pub IsFinest : Flow → List (List ℕ) → Type 0
-IsFinest flow sets = (others : List (List ℕ)) (below : ℕ → ℕ → Bool) → IsMorse flow others below → (i : ℕ) → i < length sets → (j : ℕ) × (j < length others)
-    × LieIn (set_at others j) (set_at sets i)
+IsFinest flow sets = (others : List (List ℕ)) (below : ℕ → ℕ → Bool) → IsMorse flow others below
+    → (i : ℕ) → i < length sets → (j : ℕ) × (j < length others) × LieIn (set_at others j) (set_at sets i)
 
 -- the recurrence classes that count, each listed once
 pub record AreCountingClasses (flow : Flow) (sets : List (List ℕ)) : Type 0 where
