@@ -1,6 +1,7 @@
 //! Words and lines at the end of a text.
 
-ghost use Rattle.std.specs.Prelude.{◌≡◌, ◌++◌, ◌||◌, ◌<◌, All, OnOk, IfOk, decimal, length, map};
+ghost use Rattle.std.specs.Prelude.{◌≡◌, ◌++◌, ◌||◌, ◌<◌, All, OnOk, OnErr, IfOk, decimal, false, length, map};
+ghost use Rattle.std.specs.Io.{StartsWith};
 ghost use Rattle.std.specs.List.{flat_map};
 ghost use Rattle.conley_texts.specs.Line.{line};
 
@@ -26,7 +27,8 @@ ghost use Rattle.conley_texts.specs.Words.{labels_of, words_of, IsWritten, AreWr
 
 /// Puts a word behind those that a line has.
 fn push_word(text: &mut Vec<u8>, some: bool, word: &[u8]) -> Result<(), AllocError>
-    ensures { OnOk result (text.new.items ≡ text.old.items ++ behind some word.now) }
+    ensures text { OnOk result (text.new.items ≡ text.old.items ++ behind some word.now) }
+    ensures kept { StartsWith text.new.items text.old.items }
 {
     if some {
         text.push(b' ')?;
@@ -37,7 +39,8 @@ fn push_word(text: &mut Vec<u8>, some: bool, word: &[u8]) -> Result<(), AllocErr
 
 /// Puts a number behind the words that a line has.
 fn push_number(text: &mut Vec<u8>, some: bool, number: u64) -> Result<(), AllocError>
-    ensures { OnOk result (text.new.items ≡ text.old.items ++ behind some (decimal number)) }
+    ensures text { OnOk result (text.new.items ≡ text.old.items ++ behind some (decimal number)) }
+    ensures kept { StartsWith text.new.items text.old.items }
 {
     let mut digits = Buffer::new();
     push_word(text, some, digits.format(number).as_bytes())
@@ -47,6 +50,7 @@ fn push_number(text: &mut Vec<u8>, some: bool, number: u64) -> Result<(), AllocE
 fn push_numbers(text: &mut Vec<u8>, mut some: bool, numbers: &[u32]) -> Result<bool, AllocError>
     ensures text { OnOk result (text.new.items ≡ text.old.items ++ joined some (map decimal numbers.now)) }
     ensures some { IfOk result (λ now. now ≡ some || is_some (map decimal numbers.now)) }
+    ensures kept { StartsWith text.new.items text.old.items }
 {
     for number in numbers {
         push_number(text, some, *number as u64)?;
@@ -65,6 +69,7 @@ fn push_labels(
     requires { All (λ x. x < length complex.now.1.dims) cells.now }
     ensures text { OnOk result (text.new.items ≡ text.old.items ++ joined some (labels_of complex.now.1.labels cells.now)) }
     ensures some { IfOk result (λ now. now ≡ some || is_some (labels_of complex.now.1.labels cells.now)) }
+    ensures kept { StartsWith text.new.items text.old.items }
 {
     for x in cells {
         push_word(text, some, complex.label(*x).as_bytes())?;
@@ -78,6 +83,7 @@ fn push_words(text: &mut Vec<u8>, some: bool, words: &Words) -> Result<bool, All
     requires { IsWritten words.now }
     ensures text { OnOk result (text.new.items ≡ text.old.items ++ joined some (words_of words.now)) }
     ensures some { IfOk result (λ now. now ≡ some || is_some (words_of words.now)) }
+    ensures kept { StartsWith text.new.items text.old.items }
 {
     match *words {
         Words::Word(word) => {
@@ -93,15 +99,29 @@ fn push_words(text: &mut Vec<u8>, some: bool, words: &Words) -> Result<bool, All
     }
 }
 
-/// Puts a line of these words at the end of a text. Without memory it may have put a part of it.
-pub fn push_line(text: &mut Vec<u8>, words: &[Words]) -> Result<(), AllocError>
-    requires { AreWritten words.now }
-    ensures { OnOk result (text.new.items ≡ text.old.items ++ line (flat_map words_of words.now)) }
+/// Puts the words of each part, as the first words of a line.
+fn push_parts(text: &mut Vec<u8>, parts: &[Words]) -> Result<(), AllocError>
+    requires { AreWritten parts.now }
+    ensures text { OnOk result (text.new.items ≡ text.old.items ++ joined false (flat_map words_of parts.now)) }
+    ensures kept { StartsWith text.new.items text.old.items }
 {
     let mut some = false;
-    for part in words {
+    for part in parts {
         some = push_words(text, some, part)?;
     }
-    text.push(b'\n')?;
+    Ok(())
+}
+
+/// Puts a line of these words at the end of a text. Without memory the text stays as it is.
+pub fn push_line(text: &mut Vec<u8>, words: &[Words]) -> Result<(), AllocError>
+    requires { AreWritten words.now }
+    ensures line { OnOk result (text.new.items ≡ text.old.items ++ line (flat_map words_of words.now)) }
+    ensures unchanged { OnErr result (text.new.items ≡ text.old.items) }
+{
+    let count = text.len();
+    if push_parts(text, words).is_err() || text.push(b'\n').is_err() {
+        text.truncate(count);
+        return Err(AllocError);
+    }
     Ok(())
 }

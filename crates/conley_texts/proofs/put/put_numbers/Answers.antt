@@ -1,4 +1,4 @@
-use Rattle.std.proofs.Common.{arith, ◌∷◌}
+use Rattle.std.proofs.Common.{◌∷◌}
 use Rattle.std.specs.Prelude.{decimal}
 use Rattle.std.proofs.lemmas.Result.{err_from_is_err_and}
 use Rattle.conley_texts.proofs.PieceLemmas.{GainsPrefix-piece}

@@ -1,11 +1,11 @@
 -- the line in three pieces: the word with the name, the numbers, the line feed
-use Rattle.std.proofs.Common.{◌≡◌, ◌∙◌, ◌∷◌, ◌++◌, [], List, ℕ, ap, sym, subst}
+use Rattle.std.proofs.Common.{◌∙◌, ◌∷◌, ◌++◌, [], List, ℕ, ap, subst}
 use Rattle.std.specs.Prelude.{decimal}
 use Rattle.std.specs.List.{flat_map}
 use Rattle.std.proofs.lemmas.Result.{err_from_is_err_and}
 use Rattle.conley_first.specs.Told.{kept}
 use Rattle.conley_first.specs.declared.told.Told.{Told}
-use Rattle.conley_outside.specs.Sink.{Written, gains, GainsPrefix}
+use Rattle.conley_outside.specs.Sink.{gains, GainsPrefix}
 use Rattle.conley_outside.proofs.GainsLemmas.{gains-gains, GainsPrefix-after, GainsPrefix-before}
 use Rattle.conley_texts.proofs.JoinLemmas.{told_line}
 use Rattle.conley_texts.proofs.put.put_told.Goals as goal

@@ -38,7 +38,7 @@ loop-k-preserved c =
     let is = c.deref.ensures.value ∙ sym (row_of classes k c.index.result.now lt c.index.ensures) in
     let cells : List ℕ = get_or lists k [] in
     let put : c.push_line.new.text.items ≡ c.loop-k.text.items ++ line (labels_of labels c.deref.result.now) =
-    c.in_ok-push_line.ensures ∙ ap (λ (ws : List (List ℕ)). c.loop-k.text.items ++ line ws) (append-nil (labels_of labels c.deref.result.now)) in
+    c.in_ok-push_line.ensures.line ∙ ap (λ (ws : List (List ℕ)). c.loop-k.text.items ++ line ws) (append-nil (labels_of labels c.deref.result.now)) in
     put ∙ ap (λ (l : List ℕ). c.loop-k.text.items ++ line (labels_of labels l)) is ∙ ap (λ (t : List ℕ). t ++ line (labels_of labels cells)) c.loop-k.invariant
     ∙ sym (text_more (labels_of labels) lists k [] (omega (arith, lt, length-items_of classes)))
 
