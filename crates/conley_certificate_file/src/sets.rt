@@ -24,9 +24,7 @@ fn read_set<F: Field>(
     ensures cells { IfOk result (λ found. IfSome found (λ cells. ReadsSet complex.now.1.labels (bytes_of set.now) seen.old.items seen.new.items cells.items)) }
     ensures none { IfOk result (λ found. IfNone found (IsBadAlone complex.now.1.labels (bytes_of set.now) seen.old.items)) }
 {
-    let count = set.len();
-    let least = 1;
-    if count < least {
+    if set.is_empty() {
         return Ok(None);
     }
     let mut cells = Vec::new(alloc);

@@ -1,5 +1,5 @@
 use Rattle.std.proofs.Common.{◌≡◌, ◌∙◌, ◌<◌, ap, sym, subst, arith, length, string_bytes}
-use Rattle.std.proofs.lemmas.Bool.{false≢true}
+use Rattle.std.proofs.lemmas.Bool.{eqb-false, false≢true}
 use Rattle.std.proofs.lemmas.List.{length-map}
 use Rattle.conley_lists.proofs.ListLemmas.{read_mark}
 use Rattle.conley_lefschetz.specs.Listing.{bytes_of}
@@ -39,8 +39,9 @@ returns-clause-cells g c =
       c.loop-label.auto.label-index-end,
       length-map set string_bytes,
     ) in
+    let some = eqb-false _ 0 (sym c.is_empty.ensures ∙ c.if-is_empty.false) in
     record {
-      filled = λ empty. omega (arith, ap length empty, length-map set string_bytes, c.if-count-least.false);
+      filled = λ empty. some (sym (length-map set string_bytes) ∙ ap length empty);
       read = subst (λ n. ReadsUpTo c.args.complex.now.1.labels (bytes_of set) n c.args.seen.now.items c.loop-label.seen.items c.loop-label.cells.items) all
           c.loop-label.invariant;
     }
