@@ -194,36 +194,35 @@ impl Chain {
         Ok(sum)
     }
 
-    /// The chain gains `by` times another, in place: what lies before all places of the other stays. Where less than half stays, both are
-    /// put into a new list.
+    /// The chain with `by` times another added. What lies before all places of the other stays where it is; where less than half stays, both
+    /// are put into a new list. Where there is no memory, the chain handed over is dropped.
     pub fn add_scaled<F: Field>(
-        &mut self,
+        mut self,
         alloc: Global,
         field: &F,
         by: Scalar,
         other: &Chain,
-    ) -> Result<(), NoMemory>
-        requires codes { HasCodes (F.arithmetic field.now) self.old }
+    ) -> Result<Chain, NoMemory>
+        requires codes { HasCodes (F.arithmetic field.now) self }
         requires by_below { by < (F.arithmetic field.now).order }
         requires other_codes { HasCodes (F.arithmetic field.now) other.now }
-        ensures sum { OnOk result (IsChainSum (F.arithmetic field.now) self.old by other.now self.new) }
-        ensures codes { OnOk result (HasCodes (F.arithmetic field.now) self.new) }
+        ensures sum { IfOk result (IsChainSum (F.arithmetic field.now) self by other.now) }
+        ensures codes { IfOk result (HasCodes (F.arithmetic field.now)) }
     {
         if starts_beyond(other.entries(), self.entries()) {
-            return self.append(field, by, other);
+            self.append(field, by, other)?;
+            return Ok(self);
         }
         let count = self.entries().len();
         let first = other.entries()[0].0;
         let before = count_before(self.entries(), first);
         if before < count / 2 {
-            let sum = self.plus(alloc, field, by, other)?;
-            *self = sum;
-            return Ok(());
+            return self.plus(alloc, field, by, other);
         }
         let rest = self.split_off(alloc, before)?;
         let sum = rest.plus(alloc, field, by, other)?;
         self.append(field, field.one(), &sum)?;
-        Ok(())
+        Ok(self)
     }
 
     /// Takes away the entries from an index on.

@@ -291,10 +291,10 @@ const GAINS: [([(u32, u8); 2], [u8; 6]); 4] = [
 
 /// The codes at six places of the chain that gained another twice.
 fn codes_with(alloc: Global, entries: &[(u32, u8); 2]) -> Result<[u8; 6], MatrixError> {
-    let mut chain = Chain::from_entries(alloc, &FIVE, &MANY)?;
+    let chain = Chain::from_entries(alloc, &FIVE, &MANY)?;
     let other = Chain::from_entries(alloc, &FIVE, entries)?;
-    chain.add_scaled(alloc, &FIVE, Scalar::of(2), &other)?;
-    Ok([1, 2, 7, 9, 30, 31].map(|place| chain.entry(place).code()))
+    let sum = chain.add_scaled(alloc, &FIVE, Scalar::of(2), &other)?;
+    Ok([1, 2, 7, 9, 30, 31].map(|place| sum.entry(place).code()))
 }
 
 #[test]
