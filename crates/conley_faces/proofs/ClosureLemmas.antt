@@ -10,7 +10,7 @@ use Rattle.std.proofs.lemmas.List.Elements.{Contains-append_left, Contains-appen
 use Rattle.conley_walk.specs.Walk.{Reaches}
 use Rattle.conley_lists.specs.Lists.{ListedStep, IsDigraph}
 use Rattle.conley_walk.proofs.WalkLemmas.{reaches_itself, reaches_on, reaches_by_step, reaches_least}
-use Rattle.conley_lists.proofs.ListLemmas.{step_begins}
+use Rattle.conley_lists.proofs.ListLemmas.{Contains-none, step_begins}
 use Rattle.conley_faces.specs.Face.{IsFace, IsBelowItself, IsInClosure}
 use Rattle.conley_faces.specs.Closures.{IsMade, IsInListOf, AreClosures, AreClosuresSoFar, IsStuck, unmade_one, unmade}
 use Rattle.conley_faces.proofs.FaceLemmas.{face_itself, face_under, face_cases, face_ends}
@@ -194,3 +194,26 @@ closure_listed lists closures are set y = (
   (λ g. (g.0, g.1.0, (are.faces g.0 y).0 g.1.1)),
   (λ g. (g.0, (g.1, (are.faces g.0 y).1 g.2))),
 )
+
+-- some list holds the closure of a set, where lists hold the faces of each cell
+pub closure_exists : (lists closures : List (List ℕ)) → ((x y : ℕ) → ListedStep closures x y ↔ IsFace lists x y) → (set : List ℕ) → (closure : List ℕ)
+    × ((y : ℕ) → Contains closure y ↔ IsInClosure lists set y)
+closure_exists lists closures faces [] = ([], λ y. ((λ c. Contains-none y c), (λ g. Contains-none g.0 g.1)))
+closure_exists lists closures faces (x ∷ set) =
+    let rest = closure_exists lists closures faces set in
+    let row = get_or closures x [] in (
+      row ++ rest.0,
+      λ y. (
+        (λ c. elim (Contains-append_cases row rest.0 y c) [
+          | inl here ↦ (x, Contains-append_left (x ∷ []) set x (Contains-push [] x), (faces x y).0 here)
+          | inr later ↦ let g = (rest.1 y).0 later in (g.0, Contains-append_right (x ∷ []) set g.0 g.1, g.2)
+        ]),
+        (λ g. elim (Contains-append_cases (x ∷ []) set g.0 g.1) [
+          | inl here ↦ elim (Contains-push_cases [] x g.0 here) [
+            | inl none ↦ Contains-none g.0 none
+            | inr e ↦ Contains-append_left row rest.0 y ((faces x y).1 (subst (λ q. IsFace lists q y) (sym e) g.2))
+          ]
+          | inr later ↦ Contains-append_right row rest.0 y ((rest.1 y).1 (g.0, later, g.2))
+        ]),
+      ),
+    )

@@ -3,7 +3,7 @@
 ghost use Rattle.std.specs.Prelude.{◌≡◌, ◌+◌, ◌<◌, ◌≤◌, ◌^◌, ◌↔◌, ℕ, [], OnOk, IfOk, IfSome, IfNone, IsNone, IsTrue, true, false, Contains, length, slice_index_or};
 ghost use Rattle.std.specs.List.Sorted.{IsStrictlyIncreasing};
 ghost use Rattle.conley_walk.specs.Walk.{Reaches};
-ghost use Rattle.conley_lists.specs.Lists.{items_of, ListedStep, IsDigraph, entries_of, IsFirstOutOfRange, IsOrderedCopy};
+ghost use Rattle.conley_lists.specs.Lists.{items_of, ListedStep, IsDigraph, AllAscend, entries_of, IsFirstOutOfRange, IsOrderedCopy};
 ghost use Rattle.conley_faces.specs.Face.{IsFace, IsCellList, IsGap, IsFirstGap, IsLocallyClosed, IsInClosure, IsInMouth, IsBelowItself, IsLeastBelowItself};
 ghost use Rattle.conley_faces.specs.FaceOrder.{IsFaceOrder};
 
@@ -70,6 +70,17 @@ impl Faces {
         ensures order { IsFaceOrder self.now }
     {
         &self.direct[x as usize]
+    }
+
+    /// For each cell its faces, ascending and distinct. It takes no memory.
+    pub fn all_faces(&self) -> &[Vec<u32>]
+        ensures count { length result.now ≡ length self.now }
+        ensures ascending { AllAscend (items_of result.now) }
+        ensures digraph { IsDigraph (items_of result.now) }
+        ensures faces { (x y : ℕ) → ListedStep (items_of result.now) x y ↔ IsFace self.now x y }
+        ensures order { IsFaceOrder self.now }
+    {
+        self.closures.as_slice()
     }
 
     /// The faces of x, ascending.

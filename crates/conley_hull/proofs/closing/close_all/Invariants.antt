@@ -10,7 +10,7 @@ invariant-loop-x l = record {
   table : IsTable l.labels.items (items_of l.cells.items);
   closes : Closes (HaveNoGap l.faces) l.fn.labels.items l.labels.items;
   cells : (x : ℕ) → Contains l.waiting.items x → x < length l.faces;
-  settled : GapsWait (ListedStep (items_of l.below.items)) l.labels.items l.waiting.items;
+  settled : GapsWait (ListedStep (items_of l.below)) l.labels.items l.waiting.items;
 }
 
 abbrev pub decreases-loop-x : goal.decreases-loop-x
