@@ -117,7 +117,7 @@ fn is_isolated<F: Field>(
     ensures closed { result ≡ Ok true → IsLocallyClosed complex.now.1.faces set.now }
 {
     let faces = complex.faces();
-    let _order = faces.count();
+    let _closures = faces.all_faces();
     if !has_all(invariant, set) {
         return Ok(false);
     }
@@ -127,8 +127,6 @@ fn is_isolated<F: Field>(
     if let Some(_) = faces.find_gap(set) {
         return Ok(false);
     }
-    let kept = faces.closure(alloc, set)?;
-    drop(kept);
     Ok(true)
 }
 
