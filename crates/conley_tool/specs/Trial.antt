@@ -2,12 +2,13 @@
 --     IsMade word problem            the problem is the one that is made for the number which the word says
 --     OnMade word Next what          what is due of the problem that is made
 --     summary_lines summary          the lines of a summary
---     PrintsSummary problem what     the summary of the problem and of an analysis of it; it has at most 2,000 sets
+--     PrintsSummary problem what     the summary of the problem and of an analysis of it; it has at most 2,000 sets, and its matrix keeps no zero
 --     SummaryIsDue problem what      that, or more than 2,000 Morse sets are refused
 -- The wording is this project's own.
-use Rattle.std.specs.Prelude.{◌≡◌, ◌⊎◌, ◌≤◌, ℕ, List, [], ◌∷◌, map, length, Some, codes, decimal}
+use Rattle.std.specs.Prelude.{◌≡◌, ◌⊎◌, ◌≤◌, ℕ, List, [], ◌∷◌, All, map, length, Some, codes, decimal}
 use Rattle.std.specs.Fmt.{signed_decimal}
 use Rattle.conley_texts.specs.Line.{text_of}
+use Rattle.conley_chains.specs.Chain.{IsChain}
 use Rattle.conley_certificate_file.specs.Certificate.{Certificate}
 use Rattle.conley_certificate.specs.Analysis.{IsAnalysis}
 use Rattle.conley_input.specs.Problem.{Problem, IsSound}
@@ -36,7 +37,8 @@ summary_lines summary =
 
 abbrev pub PrintsSummary : Problem → Due → Type 0
 PrintsSummary problem what =
-    (C : Certificate) × IsAnalysis (in_full problem) C × (length C.morse ≤ 2000) × (what ≡ prints (text_of (summary_lines (summary_of problem.complex C))))
+    (C : Certificate) × IsAnalysis (in_full problem) C × (length C.morse ≤ 2000) × All IsChain C.matrix.columns
+    × (what ≡ prints (text_of (summary_lines (summary_of problem.complex C))))
 
 abbrev pub SummaryIsDue : Problem → Due → Type 0
 SummaryIsDue problem what = RefusesSets problem what ⊎ PrintsSummary problem what

@@ -46,6 +46,7 @@ fn answer_on<D: Depot>(
         (Rose (D.faults depot.old) (D.faults depot.new))) }
     ensures same_files { D.files depot.new ≡ D.files depot.old }
     ensures later { D.faults depot.old ≤ D.faults depot.new }
+    ensures unasked { spec.reads_file command.now.verb ≡ false → D.faults depot.new ≡ D.faults depot.old }
 {
     match command.verb {
         Verb::Classes => answer_classes(alloc, problem),
@@ -71,6 +72,7 @@ fn named_problem<D: Depot>(
     ensures err { IfErr result (NamedCause (spec.reads_file verb) (D.files depot.old) word.now (Rose (D.faults depot.old) (D.faults depot.new))) }
     ensures same_files { D.files depot.new ≡ D.files depot.old }
     ensures later { D.faults depot.old ≤ D.faults depot.new }
+    ensures unasked { spec.reads_file verb ≡ false → D.faults depot.new ≡ D.faults depot.old }
 {
     if reads_file(verb) {
         read_problem(alloc, word, depot)
@@ -88,6 +90,7 @@ fn answer<D: Depot>(alloc: Global, command: &Command, depot: &mut D) -> Result<A
     ensures ok { IfOk result (λ answer. IsDueOf (D.files depot.old) (meaning_of command.now) (due_of answer)) }
     ensures err { IfErr result (EndCause (IsDueOf (D.files depot.old) (meaning_of command.now)) (Rose (D.faults depot.old) (D.faults depot.new))) }
     ensures same_files { D.files depot.new ≡ D.files depot.old }
+    ensures unasked { spec.reads_file command.now.verb ≡ false → D.faults depot.new ≡ D.faults depot.old }
 {
     let word = command.arguments[0].as_str();
     let problem = named_problem(alloc, command.verb, word, depot)?;
@@ -107,6 +110,7 @@ fn outcome_of<D: Depot, O: Sink>(
         (Rose (O.faults out.old) (O.faults out.new)) result }
     ensures gains { Gains (IsDueFor (D.files depot.old) words.now) (O.written out.old) (O.written out.new) result }
     ensures same_files { D.files depot.new ≡ D.files depot.old }
+    ensures unasked { spec.names_file (command_of (map string_bytes words.now)) ≡ false → D.faults depot.new ≡ D.faults depot.old }
 {
     let Some(command) = parse_words(words) else {
         return Outcome::Usage;
@@ -154,6 +158,9 @@ pub fn run<D: Depot, O: Sink, E: Sink>(
         ⊎ (Rose (E.faults err.old) (E.faults err.new) × GainsPrefix (E.written err.old) (line_of result) (E.written err.new)) }
 
     ensures same_files { D.files depot.new ≡ D.files depot.old }
+
+    // Where the words name no file, nothing of the outside has failed by the depot: no read fault comes then.
+    ensures unasked { spec.names_file (command_of (map string_bytes words.now)) ≡ false → D.faults depot.new ≡ D.faults depot.old }
 {
     let outcome = outcome_of(alloc, words, depot, out);
     let _ = report(&outcome, err);

@@ -87,6 +87,7 @@ pub(crate) fn answer_trial(alloc: Global, problem: &Problem) -> Result<Answer, O
         Err(MorseError::TooManyMorse(count)) => return Err(Outcome::Refused(Fault::Morse(count))),
         Err(MorseError::NoMemory) => return Err(Outcome::NoMemory),
     };
+    let _kept = certificate.matrix.rows();
     let summary = Summary::of(&problem.complex, &certificate);
     Ok(Answer::Prints(summary_text(alloc, &summary)?))
 }

@@ -2,7 +2,7 @@
 --     count_of_dim dims k      how many cells have dimension k
 --     euler dims               the number of cells of dimension 0, less those of dimension 1, plus those of dimension 2
 --     index_sum numbers k      the sum of the numbers of all sets at dimension k
---     entry_count matrix       how many entries are kept; a matrix keeps those other than zero
+--     entry_count matrix       how many entries are kept; where the columns are chains, these are the entries other than zero, each once
 -- The wording is this project's own.
 use Rattle.std.specs.Prelude.{◌==◌, ℕ, ℤ, pos, ◌+ℤ◌, ◌-ℤ◌, List, length, count_by, sum_by, slice_index}
 use Rattle.conley_chains.specs.Matrix.{Table}

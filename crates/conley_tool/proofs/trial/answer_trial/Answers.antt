@@ -31,7 +31,7 @@ returns-clause-ok c =
     let analysis = subst (λ (F : Arithmetic). IsAnalysis (problem_of F problem.complex problem.part_of) C)
     (arithmetic_of-residues c.args.problem.now.complex.0) c.in-Ok.ensures.analysis in
     let few : length C.morse ≤ 2000 = omega (arith, c.in-Ok.ensures.few, length-items_of c.in-Ok.certificate.morse.items) in
-    inr (C, analysis, few, ap prints (c.in_ok-summary_text.ensures ∙ ap (λ s. text_of (summary_lines s)) c.of-summary.ensures))
+    inr (C, analysis, few, c.rows-kept.ensures.kept.chains, ap prints (c.in_ok-summary_text.ensures ∙ ap (λ s. text_of (summary_lines s)) c.of-summary.ensures))
 
 pub of-summary-requires-clause-rows : goal.of-summary-requires-clause-rows
 of-summary-requires-clause-rows c =
