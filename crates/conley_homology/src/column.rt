@@ -121,8 +121,8 @@ fn first_kept<F: Field>(alloc: Global, field: &F, keeps: bool, cell: u32) -> Res
     Ok(Chain::from_pairs(alloc, &[(cell, field.one())])?)
 }
 
-/// The chain that ends at cell i of the set, with a boundary that ends where no other does. Where the boundary has come to more entries
-/// than a sixteenth of the cells, it is reduced further as a row of codes.
+/// The chain that ends at cell i of the set, with a boundary that ends where no other does. Once the sums have gone over more entries of
+/// the boundary than the complex has cells, it is reduced further as a row of codes, of which the making costs no more than they did.
 pub(crate) fn reduced_column<F: Field>(
     alloc: Global,
     field: &F,
@@ -144,8 +144,9 @@ pub(crate) fn reduced_column<F: Field>(
     let mut kept = first_kept(alloc, field, cells.keeps, cell)?;
     let mut reduced = own_column(alloc, cells.boundary, cells.set, cell)?;
     let mut end = end_of(cells.set, &reduced);
+    let mut summed = 0usize;
     while let Some(source) = owner_of(&columns.owner, end) {
-        if reduced.entries().len() > cells.set.len() / 16 {
+        if summed > cells.dims.len() {
             return reduced_as_row(
                 alloc,
                 field,
@@ -155,6 +156,7 @@ pub(crate) fn reduced_column<F: Field>(
                 Column { kept, reduced, end },
             );
         }
+        summed = summed.saturating_add(reduced.entries().len());
         let other = &columns.reduced[source as usize];
         let by = multiple(field, &reduced, other, cells.set[end - 1]);
         reduced = reduced.plus(alloc, field, by, other)?;
