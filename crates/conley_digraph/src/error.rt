@@ -6,7 +6,7 @@ ghost use Rattle.conley_digraph.specs.declared.error.DigraphError.TheVariants.{N
 use std::alloc::AllocError;
 
 /// Why lists make no digraph.
-#[derive(Debug, PartialEq, Eq, Drop)]
+#[derive(Clone, Copy, Debug, PartialEq, Eq)]
 pub enum DigraphError {
     /// This entry, counted over all lists, is the first that is no node.
     Range(u32),

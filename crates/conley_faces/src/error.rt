@@ -6,7 +6,7 @@ ghost use Rattle.conley_faces.specs.declared.error.FacesError.TheVariants.{NoMem
 use std::alloc::AllocError;
 
 /// Why lists make no faces.
-#[derive(Debug, PartialEq, Eq, Drop)]
+#[derive(Clone, Copy, Debug, PartialEq, Eq)]
 pub enum FacesError {
     /// This entry, counted over all lists, is the first that names no cell.
     Range(u32),

@@ -6,7 +6,7 @@ ghost use Rattle.conley_morse.specs.declared.error.MorseError.TheVariants.{NoMem
 use std::alloc::AllocError;
 
 /// Why no decomposition is given.
-#[derive(Debug, Drop)]
+#[derive(Clone, Copy, Debug, PartialEq, Eq)]
 pub enum MorseError {
     /// There are so many Morse sets, more than 2,000.
     TooManyMorse(u32),
