@@ -30,7 +30,8 @@ pub fn identity<F: Field>(alloc: Global, field: &F, n: usize) -> Result<Equivale
     })
 }
 
-/// One equivalence after another: the first leads from B to A, the second from C to B.
+/// One equivalence after another: the first leads from B to A, the second from C to B, so their sizes fit at B. `phi` and `psi` are products,
+/// `gamma` is the first's and, between the first's `phi` and `psi`, the second's; `gamma2` is the second's and, between its `psi` and `phi`, the first's.
 pub fn compose<F: Field>(
     alloc: Global,
     field: &F,

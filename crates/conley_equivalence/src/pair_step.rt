@@ -21,6 +21,7 @@ use conley_order::Grading;
 use std::alloc::Global;
 
 /// The complex without generators `k` and `q`, which the entry of column `k` at `q` joins, and the maps to it and back.
+/// The other generators keep their order.
 pub fn of_pair<'g, F: Field, G: Grading>(
     alloc: Global,
     graded: &GradedComplex<'g, F, G>,

@@ -17,6 +17,7 @@ pub enum FetchError {
     NoMemory,
 }
 
+/// Files by name, of this system or of memory.
 pub trait Depot {
     /// What the depot tells of its files.
     ghost files: { Self → Files };

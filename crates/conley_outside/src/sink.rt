@@ -8,6 +8,7 @@ ghost use Rattle.conley_outside.specs.Sink.{Written, gains, count_written};
 #[derive(Clone, Copy, Debug, PartialEq, Eq)]
 pub struct Failed;
 
+/// What takes bytes, piece by piece: a stream of this system, or a list in memory.
 pub trait Sink {
     /// What the sink tells of the bytes that were put into it.
     ghost written: { Self → Written };
