@@ -35,11 +35,15 @@ def depth(value):
     return 0 if inner is None else 1 + max(map(depth, inner), default=0)
 
 def json_of(data):
-    value = json.loads(data.decode(), parse_int=number, parse_float=number, parse_constant=number)
-    json.dumps(value, ensure_ascii=False).encode()
-    if depth(value) > 127:
+    def read(**keeps):
+        return json.loads(data.decode(), parse_int=number, parse_float=number, parse_constant=number, **keeps)
+
+    # every member, also one whose name comes again, of which the last counts
+    every = read(object_pairs_hook=lambda members: {f"{k} {name}": value for k, (name, value) in enumerate(members)})
+    json.dumps(every, ensure_ascii=False).encode()
+    if depth(every) > 127:
         raise ValueError
-    return value
+    return read()
 
 class Problem:
     """Dimensions, boundary (for each cell the codes of its direct faces), parts, and what parts each part reaches."""

@@ -37,7 +37,7 @@ def homology(problem, cells):
     closure = set().union(*(reached(problem.boundary, x) for x in cells))
     mouth = closure.difference(cells)
     numbers = []
-    for dimension in range(1 + max(problem.dimensions)):
+    for dimension in range(1 + max(problem.dimensions, default=-1)):
         chains = [x for x in closure if problem.dimensions[x] == dimension]
         # a chain on the closure is a relative cycle where its boundary is zero outside the mouth
         outside = [{y: s for y, s in problem.boundary[x].items() if y not in mouth} for x in chains]
