@@ -124,6 +124,13 @@ impl Matrix {
         &self.kept[column as usize]
     }
 
+    /// The columns, each as the chain of its rows. It takes no memory.
+    pub fn into_columns(self) -> Vec<Chain>
+        ensures { result.items ≡ self.columns }
+    {
+        self.kept
+    }
+
     /// The scalar in a row and a column, or zero where nothing is kept. It takes no memory.
     pub fn entry(&self, row: u32, column: u32) -> Scalar
         requires { column < column_count self.now }

@@ -281,6 +281,13 @@ fn rows_and_columns_exchanged(rt: HostRuntime) -> Result<(), Fail> {
     Ok(())
 }
 
+#[test]
+fn a_matrix_hands_out_its_columns(rt: HostRuntime) -> Result<(), Fail> {
+    let columns = turned(rt.alloc())?.into_columns();
+    assert!(rt; columns.len() == 3 && is(&columns[0], &[(0, 2), (1, 3)]) && is(&columns[1], &[]));
+    Ok(())
+}
+
 /// Entries of a chain, and what the chain above has at six places once it gained that one twice.
 const GAINS: [([(u32, u8); 2], [u8; 6]); 4] = [
     ([(31, 1), (40, 4)], [0, 1, 3, 4, 2, 2]),
