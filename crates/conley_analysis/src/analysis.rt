@@ -53,7 +53,7 @@ pub fn analyze<F: Field>(
     } = reduce(alloc, &graded)?;
     let _filtered = small.count();
     let generators = named(alloc, complex.count(), &sets, &small)?;
-    let matrix = small.matrix().copy(alloc)?;
+    let matrix = small.into_matrix();
     let Equivalence {
         phi,
         psi,

@@ -34,7 +34,7 @@ fn the_identity_twice_is_the_identity(rt: HostRuntime) -> Result<(), Fail> {
 }
 
 /// Whether of an edge with incidences -1 and 1, where its first vertex and the edge are one part, these two are the first pair, and
-/// the maps without it are those worked out by hand.
+/// the maps without it are those worked out by hand, and the boundary comes out as given.
 fn is_taken_out(alloc: Global) -> Result<bool, Fail> {
     let complex = listed(
         alloc,
@@ -50,7 +50,9 @@ fn is_taken_out(alloc: Global) -> Result<bool, Fail> {
     match graded.first_inside() {
         Some(pair) => {
             let maps = of_pair(alloc, &graded, pair.0, pair.1)?.1;
-            Ok(pair == (2, 0) && keep(&maps, &[(1, 0, 1)], &[(0, 0, 1), (0, 1, 1)], &[(2, 0, 2)]))
+            let by_hand = keep(&maps, &[(1, 0, 1)], &[(0, 0, 1), (0, 1, 1)], &[(2, 0, 2)]);
+            let given = keeps(&graded.into_matrix(), &[(0, 2, 2), (1, 2, 1)]);
+            Ok(pair == (2, 0) && by_hand && given)
         }
         None => Ok(false),
     }

@@ -99,6 +99,13 @@ impl<'g, F: Field, G: Grading> GradedComplex<'g, F, G> {
         &self.matrix
     }
 
+    /// The boundary alone, out of a complex that is handed over. It takes no memory.
+    pub fn into_matrix(self) -> Matrix
+        ensures { result ≡ self.entry.matrix }
+    {
+        self.matrix
+    }
+
     /// The field of its scalars. It takes no memory.
     pub fn field(&self) -> &F
         ensures { result.now ≡ self.now.field }

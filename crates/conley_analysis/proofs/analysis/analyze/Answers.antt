@@ -100,7 +100,7 @@ returns-clause-analysis g c =
     (reduced-reach (problem g s) (is_problem g s) _ _ (cells g s) (reach g s) c.in_ok-graded.graded.base (base_count g s) (items g s) _ _ (reduced g s))
     (strict-reach (problem g s) (is_problem g s) _ _ (cells g s) (reach g s) c.in_ok-graded.graded.base (base_count g s) (items g s) _ _ (reduced g s)
     (strict g s))
-    (c.in_ok-matrix.ensures ∙ c.matrix.ensures) c.in_ok-generators.ensures.count (rw c.deref.ensures.value at c.in_ok-generators.ensures.sets)
+    c.into_matrix-matrix.ensures c.in_ok-generators.ensures.count (rw c.deref.ensures.value at c.in_ok-generators.ensures.sets)
     c.in_ok-generators.ensures.dims in
     ListsReduction-IsAnalysis (problem g s) (is_problem g s) _ small.base from
 
@@ -113,7 +113,7 @@ returns-clause-cells g c =
     (reduced-reach (problem g s) (is_problem g s) _ _ (cells g s) (reach g s) c.in_ok-graded.graded.base (base_count g s) (items g s) _ _ (reduced g s))
     (strict-reach (problem g s) (is_problem g s) _ _ (cells g s) (reach g s) c.in_ok-graded.graded.base (base_count g s) (items g s) _ _ (reduced g s)
     (strict g s))
-    (c.in_ok-matrix.ensures ∙ c.matrix.ensures) c.in_ok-generators.ensures.count (rw c.deref.ensures.value at c.in_ok-generators.ensures.sets)
+    c.into_matrix-matrix.ensures c.in_ok-generators.ensures.count (rw c.deref.ensures.value at c.in_ok-generators.ensures.sets)
     c.in_ok-generators.ensures.dims in
     (small.base, ListsReduction-KeepsCells (problem g s) (is_problem g s) _ small.base from)
 
@@ -127,6 +127,6 @@ returns-clause-fits g c =
     let count = base_count g s in
     graph_fits (problem g s) (is_problem g s) _ c.in_ok-sets.ensures.graph
     (subst (λ t. IsTable F (length c.in_ok-generators.generators.items) (length c.in_ok-generators.generators.items) t)
-    (sym (c.in_ok-matrix.ensures ∙ c.matrix.ensures)) (table_at _ _ _ _ _ filtered.table names names))
+    (sym c.into_matrix-matrix.ensures) (table_at _ _ _ _ _ filtered.table names names))
     (table_at _ _ _ _ _ tables.phi count names) (table_at _ _ _ _ _ tables.psi names count) (table_at _ _ _ _ _ tables.gamma count count)
     (table_at _ _ _ _ _ tables.gamma2 names names)
