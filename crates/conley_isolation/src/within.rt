@@ -30,8 +30,7 @@ fn heads_of(
         let heads = places_in(alloc, faces.direct(x), set)?;
         return Ok(heads);
     }
-    let closure = faces.closure(alloc, &[x])?;
-    let heads = places_in(alloc, &closure, set)?;
+    let heads = places_in(alloc, &faces.all_faces()[x as usize], set)?;
     Ok(heads)
 }
 
