@@ -2,7 +2,7 @@
 
 ghost use Rattle.std.specs.Prelude.{◌<◌, ◌^◌, All, IfOk, OnOk, length};
 ghost use Rattle.conley_lists.specs.Lists.{items_of, IsDigraph};
-ghost use Rattle.conley_digraph.specs.Turning.{PutsUnderEach, IsTurnedRound};
+ghost use Rattle.conley_digraph.specs.Turning.{PutsUnderEach, StayAscending, IsTurnedRound};
 
 use conley_lists::{empty_lists, put_under};
 use std::alloc::{AllocError, Global};
@@ -10,7 +10,8 @@ use std::alloc::{AllocError, Global};
 /// Puts x at the end of the list of each head.
 fn put_under_each(lists: &mut Vec<Vec<u32>>, heads: &[u32], x: u32) -> Result<(), AllocError>
     requires { All (λ y. y < length lists.old.items) heads.now }
-    ensures { OnOk result (PutsUnderEach (items_of lists.old.items) (items_of lists.new.items) heads.now x) }
+    ensures puts { OnOk result (PutsUnderEach (items_of lists.old.items) (items_of lists.new.items) heads.now x) }
+    ensures ascending { OnOk result (StayAscending (items_of lists.old.items) (items_of lists.new.items) heads.now x) }
 {
     for y in heads {
         put_under(lists, *y, x)?;
@@ -18,7 +19,7 @@ fn put_under_each(lists: &mut Vec<Vec<u32>>, heads: &[u32], x: u32) -> Result<()
     Ok(())
 }
 
-/// The digraph with a step from y to x for each step from x to y.
+/// The digraph with a step from y to x for each step from x to y. Its lists ascend where those given do.
 pub fn turned_round(alloc: Global, steps: &[Vec<u32>]) -> Result<Vec<Vec<u32>>, AllocError>
     requires digraph { IsDigraph (items_of steps.now) }
     requires count { length steps.now < 2 ^ 32 }

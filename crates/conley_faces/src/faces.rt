@@ -72,6 +72,15 @@ impl Faces {
         &self.direct[x as usize]
     }
 
+    /// For each cell those directly under it, ascending and distinct. It takes no memory.
+    pub fn all_direct(&self) -> &[Vec<u32>]
+        ensures count { length result.now ≡ length self.now }
+        ensures cells { items_of result.now ≡ self.now }
+        ensures order { IsFaceOrder self.now }
+    {
+        self.direct.as_slice()
+    }
+
     /// For each cell its faces, ascending and distinct. It takes no memory.
     pub fn all_faces(&self) -> &[Vec<u32>]
         ensures count { length result.now ≡ length self.now }

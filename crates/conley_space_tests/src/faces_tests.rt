@@ -21,6 +21,7 @@ fn edge(alloc: Global) -> Result<Faces, Fail>
 fn an_edge_has_its_ends(rt: HostRuntime) -> Result<(), Fail> {
     let faces = edge(rt.alloc())?;
     assert!(rt; faces.direct(2) == [0, 1].as_slice());
+    assert!(rt; faces.all_direct()[2].as_slice() == [0, 1].as_slice());
     assert!(rt; faces.all_faces()[2].as_slice() == [0, 1, 2].as_slice());
     assert!(rt; faces.is_face(2, 0) && faces.find_gap(&[0, 2]).is_none());
     Ok(())

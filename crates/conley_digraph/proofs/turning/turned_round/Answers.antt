@@ -13,7 +13,8 @@ put_under_each-requires c =
 pub loop-x-preserved : goal.loop-x-preserved
 loop-x-preserved c =
     let row = row_of c.args.steps.now c.loop-x.x c.index-steps-x.result c.loop-x-test.true c.index-steps-x.is in
-    turned_more _ _ _ _ c.loop-x.invariant (rw (c.deref.ensures.value, ← row) at c.in_ok-put_under_each.ensures)
+    turned_more _ _ _ _ c.loop-x.invariant (rw (c.deref.ensures.value, ← row) at c.in_ok-put_under_each.ensures.puts)
+    (rw (c.deref.ensures.value, ← row) at c.in_ok-put_under_each.ensures.ascending)
 
 pub returns : goal.returns
 returns c = turned_all _ _ _ (omega (arith, length-items_of c.args.steps.now, c.loop-x-test.false)) c.loop-x.invariant
